@@ -1,0 +1,7 @@
+use mathlib.Core.Path.{_≡_}
+use lib.ListN.{drop}
+use Rattle.places.proofs.Fronts.{next-of}
+use Rattle.places.proofs.rising.first_from.Given as given
+
+abbrev pub Inv-loop-x : given.InvT-loop-x
+Inv-loop-x l = next-of (l .place) (drop (l .x-index) (l .rising)) ≡ next-of (l .place) (l .rising)

@@ -1,0 +1,1 @@
+// Mathematics of counts below a bound. No code runs from here.
