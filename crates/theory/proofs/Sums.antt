@@ -83,8 +83,8 @@ unfolding sum
 sum-term f zero q l = omega arith
 sum-term f (suc n) q l =
     elim (ℕ-discrete n q) [
-      yes e ↦ omega (arith, ap f e)
-    | no ne ↦ omega (arith, sum-term f n q (omega arith))
+      | yes e ↦ omega (arith, ap f e)
+      | no ne ↦ omega (arith, sum-term f n q (omega arith))
     ]
 
 -- a sum whose other terms are 0 is that one term
@@ -93,8 +93,8 @@ unfolding sum
 sum-at f zero q l h = omega arith
 sum-at f (suc n) q l h =
     elim (ℕ-discrete n q) [
-      yes e ↦ omega (arith, ap f e, sum-zero f n (λ k s. h k (omega arith) (omega arith)))
-    | no ne ↦ omega (arith, h n (omega arith) ne, sum-at f n q (omega arith) (λ k s. h k (omega arith)))
+      | yes e ↦ omega (arith, ap f e, sum-zero f n (λ k s. h k (omega arith) (omega arith)))
+      | no ne ↦ omega (arith, h n (omega arith) ne, sum-at f n q (omega arith) (λ k s. h k (omega arith)))
     ]
 
 -- two functions that differ at one place below n
@@ -103,8 +103,8 @@ unfolding sum
 sum-put f g zero q l h = omega arith
 sum-put f g (suc n) q l h =
     elim (ℕ-discrete n q) [
-      yes e ↦ omega (arith, ap f e, ap g e, sum-eq f g n (λ k s. h k (omega arith) (omega arith)))
-    | no ne ↦ omega (arith, h n (omega arith) ne, sum-put f g n q (omega arith) (λ k s. h k (omega arith)))
+      | yes e ↦ omega (arith, ap f e, ap g e, sum-eq f g n (λ k s. h k (omega arith) (omega arith)))
+      | no ne ↦ omega (arith, h n (omega arith) ne, sum-put f g n q (omega arith) (λ k s. h k (omega arith)))
     ]
 
 -- where a sum is no greater than a smaller one, they agree at each place
@@ -115,8 +115,8 @@ sum-tight f g (suc n) h s k l =
     let b : sum f n ≤ sum g n = sum-le f g n (λ j i. h j (omega arith)) in
     let c : f n ≤ g n = h n (omega arith) in
     elim (ℕ-discrete n k) [
-      yes e ↦ omega (arith, ap f e, ap g e)
-    | no ne ↦ sum-tight f g n (λ j i. h j (omega arith)) (omega arith) k (omega arith)
+      | yes e ↦ omega (arith, ap f e, ap g e)
+      | no ne ↦ sum-tight f g n (λ j i. h j (omega arith)) (omega arith) k (omega arith)
     ]
 
 -- ---- counts
@@ -168,9 +168,9 @@ count-insert s x n l out =
 -- a set that lacks q, inside one that has it, has fewer elements
 pub count-lt : (s t : ℕ → Bool) (n q : ℕ) → ((k : ℕ) → k < n → s k ≡ true → t k ≡ true) → q < n → s q ≡ false → t q ≡ true → count s n < count t n
 count-lt s t n q h l e d = elim (leq (count t n) (count s n)) [
-      inl r ↦ absurd (clash (count-tight s t n h r q l d) e)
-    | inr r ↦ r
-    ]
+  | inl r ↦ absurd (clash (count-tight s t n h r q l d) e)
+  | inr r ↦ r
+]
   where
     leq : (a b : ℕ) → (a ≤ b) ⊎ (b < a)
     leq a b = elim (native.Mathlib.Decide.decLe a b) [ yes r ↦ inl r | no r ↦ inr (omega arith) ]
@@ -182,8 +182,8 @@ unfolding some
 some-has t zero k l e = absurd (omega arith)
 some-has t (suc n) k l e =
     elim (ℕ-discrete n k) [
-      yes d ↦ simp (ap t d, e)
-    | no ne ↦ or-right (t n) (some-has t n k (omega arith) e)
+      | yes d ↦ simp (ap t d, e)
+      | no ne ↦ or-right (t n) (some-has t n k (omega arith) e)
     ]
 
 pub some-at : (t : ℕ → Bool) (n : ℕ) → some t n ≡ true → (k : ℕ) × (k < n) × (t k ≡ true)
