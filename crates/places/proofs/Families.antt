@@ -1,7 +1,7 @@
 -- Reads and writes of a table of lists, as its family sees them.
 use mathlib.Core.Path.{_≡_, refl, sym, ap, _∙_, subst, fun-ext}
 use Rattle.places.specs.Sets.{First}
-use Rattle.std.specs.Options.{Cases, isSome}
+use Rattle.std.specs.Options.{Cases}
 use Rattle.std.specs.declared.option.Option.{Option}
 use Rattle.std.specs.declared.option.Option.the-variants.{Some, None}
 use mathlib.Core.Bool.{Bool, true, false, cond}
@@ -28,10 +28,6 @@ module _ {L : Type 0} (has : L → ℕ → Bool) where
   -- an element that was read
   pub family-read : (xs : List L) (j : ℕ) (x : L) → j < length xs → x ≡ getD xs j x → (p : ℕ) → family has xs j p ≡ has x p
   family-read xs j x h e p = family-at xs j x p h ∙ ap (λ y. has y p) (sym e)
-
-  -- a question to an element that was read
-  pub family-told : (xs : List L) (j p : ℕ) (x : L) (r : Bool) → j < length xs → x ≡ getD xs j x → r ≡ has x p → r ≡ family has xs j p
-  family-told xs j p x r h e told = told ∙ sym (family-read xs j x h e p)
 
   -- the list of one job, as a set
   pub family-list : (xs : List L) (j : ℕ) (x : L) → j < length xs → x ≡ getD xs j x → has x ≡ family has xs j
@@ -72,12 +68,3 @@ module _ {L : Type 0} (has : L → ℕ → Bool) where
 pub first-within : (s : ℕ → Bool) (limit from : ℕ) (r : Option ℕ) → ((p : ℕ) → s p ≡ true → p < limit) → First s from r → Cases r (Unit {0}) (λ p. p < limit)
 first-within s limit from None law h = tt
 first-within s limit from (Some v) law h = law v (h .1)
-
--- a set that answers with a place has one at or past the number asked for, and one that answers with none has none
-pub first-some : (s : ℕ → Bool) (w : ℕ) (r : Option ℕ) → First s w r → isSome r ≡ true → ((q : ℕ) → w ≤ q → s q ≡ false) → ⊥
-first-some s w None f e none = false≢true e
-first-some s w (Some v) f e none = false≢true (sym (none v (f .0)) ∙ f .1)
-
-pub first-none : (s : ℕ → Bool) (w : ℕ) (r : Option ℕ) → First s w r → isSome r ≡ false → (q : ℕ) → w ≤ q → s q ≡ false
-first-none s w None f e = f
-first-none s w (Some v) f e = absurd (false≢true (sym e))

@@ -1,16 +1,17 @@
 // Families: one list for each job, in a lent slice.
 ghost use mathlib.Core.Bool.{false};
 ghost use mathlib.Core.Path.{_≡_};
-ghost use Prim.Native.Nat.{ℕ};
+ghost use mathlib.Core.Logic.{_↔_};
+ghost use Prim.Native.Nat.{ℕ, _≤_};
 ghost use lib.ListN.{length};
 ghost use Rattle.places.specs.Families.{family, FirstPast};
 use crate::set::PlaceSet;
 
-// Whether the list of a job holds a place; no job past the lists holds one.
-pub fn holds<L: PlaceSet>(lists: &[L], job: usize, place: u16) -> bool
-    ensures { λ r. ⌜ r ≡ family has (now (lists .entry)) job place ⌝ }
+// Whether the list holds a place at or past `width`.
+fn exceeds<L: PlaceSet>(list: &L, width: u16) -> bool
+    ensures { λ r. ⌜ r ≡ false ↔ ((p : ℕ) → width ≤ p → has (now (list .entry)) p ≡ false) ⌝ }
 {
-    job < lists.len() && lists[job].contains(place)
+    list.next_from(width).is_some()
 }
 
 // The lowest job whose list holds a place at or past `width`.
@@ -18,7 +19,7 @@ pub fn first_past<L: PlaceSet>(lists: &[L], width: u16) -> Option<usize>
     ensures { λ r. ⌜ FirstPast (family has (now (lists .entry))) (length (now (lists .entry))) width r ⌝ }
 {
     for (job, list) in lists.iter().enumerate() {
-        if list.next_from(width).is_some() {
+        if exceeds(list, width) {
             return Some(job);
         }
     }

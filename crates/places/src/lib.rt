@@ -7,7 +7,6 @@ mod set;
 
 pub use family::empty;
 pub use family::first_past;
-pub use family::holds;
 pub use needles::NeedleList;
 pub use needles::NeedleSet;
 pub use row::CarrierRow;

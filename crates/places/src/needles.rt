@@ -8,12 +8,13 @@ ghost use Rattle.std.specs.Results.{isOk};
 ghost use Rattle.std.specs.Vec.{made};
 ghost use Rattle.theory.specs.Lists.{member};
 ghost use Rattle.places.specs.Needles.{front-part, makes-list, needles-have, rises};
-use crate::rising::UNUSED;
 use crate::rising::first_from;
 use crate::rising::has_place;
 use crate::rising::how_many;
+use crate::rising::is_rising;
 use crate::rising::may_follow;
-use crate::rising::stored_alone;
+use crate::rising::stored;
+use crate::rising::stored_only;
 use crate::rising::stored_without;
 use crate::set::NoList;
 use crate::set::PlaceSet;
@@ -30,19 +31,12 @@ impl NeedleList {
         ensures accepts { λ r. ⌜ isOk r ≡ makes-list (now (named .entry)) ⌝ }
         ensures holds { λ r. ⌜ made r (λ l. (q : ℕ) → needles-have (l .places) q ≡ member (now (named .entry)) q) ⌝ }
     {
-        if named.len() > 8 {
+        if named.len() > 8 || !is_rising(named) {
             return Err(NoList);
         }
-        let mut places = [UNUSED; 8];
-        let mut low = 0;
-        for (i, x) in named.iter().enumerate() {
-            if !may_follow(low, *x) {
-                return Err(NoList);
-            }
-            places[i] = *x;
-            low = *x + 1;
-        }
-        Ok(NeedleList { places })
+        Ok(NeedleList {
+            places: stored(named),
+        })
     }
 
     // The stored numbers that count: the places held, rising.
@@ -84,7 +78,7 @@ pub impl PlaceSet for NeedleList as NeedleSet {
     }
 
     fn next_from(&self, place: u16) -> Option<u16> {
-        first_from(self.front(), place)
+        first_from(&self.places, place)
     }
 
     fn strike(&mut self, place: u16) {
@@ -92,10 +86,6 @@ pub impl PlaceSet for NeedleList as NeedleSet {
     }
 
     fn fix(&mut self, place: u16) {
-        self.places = if self.contains(place) {
-            stored_alone(place)
-        } else {
-            [UNUSED; 8]
-        };
+        self.places = stored_only(self.front(), place);
     }
 }

@@ -1,5 +1,5 @@
 // A set of places below 64 in one number: bit p is set exactly if p is held.
-ghost use mathlib.Core.Bool.{not, _&&_, _||_};
+ghost use mathlib.Core.Bool.{true, not, _&&_, _||_};
 ghost use mathlib.Core.Path.{_≡_};
 ghost use Prim.Native.Nat.{ℕ};
 ghost use lib.Dec.{eqb, ltb};
@@ -45,20 +45,38 @@ fn bit_count(row: u64) -> u16
     row.count_ones() as u16
 }
 
+fn all_fit(named: &[u16]) -> bool
+    ensures { λ r. ⌜ r ≡ all-below 64 (now (named .entry)) ⌝ }
+{
+    for place in named {
+        if *place >= 64 {
+            return false;
+        }
+    }
+    true
+}
+
+fn row_of(named: &[u16]) -> u64
+    requires { ⌜ all-below 64 (now named) ≡ true ⌝ }
+    ensures { λ r. ⌜ ((q : ℕ) → row-has r q ≡ member (now (named .entry)) q) ⌝ }
+{
+    let mut row = bit_of(64);
+    for place in named {
+        row = joined(row, bit_of(*place));
+    }
+    row
+}
+
 impl CarrierRow {
     // The row of exactly the named places; refused for one of 64 or more.
     pub fn new(named: &[u16]) -> Result<CarrierRow, NoList>
         ensures accepts { λ r. ⌜ isOk r ≡ all-below 64 (now (named .entry)) ⌝ }
         ensures holds { λ r. ⌜ made r (λ l. (q : ℕ) → row-has (l .0) q ≡ member (now (named .entry)) q) ⌝ }
     {
-        let mut row = bit_of(64);
-        for place in named {
-            if *place >= 64 {
-                return Err(NoList);
-            }
-            row = joined(row, bit_of(*place));
+        if !all_fit(named) {
+            return Err(NoList);
         }
-        Ok(CarrierRow(row))
+        Ok(CarrierRow(row_of(named)))
     }
 }
 
