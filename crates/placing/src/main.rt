@@ -3,7 +3,7 @@ use places::CarrierRow;
 use places::NoList;
 use places::PlaceSet;
 use places::RowSet;
-use rules::Refusal;
+use refusals::Refusal;
 use rules::Sum;
 use rules::SumRule;
 use rules::narrow_family;

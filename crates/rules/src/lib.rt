@@ -2,7 +2,6 @@
 mod gap;
 mod narrow;
 mod progression;
-mod refusal;
 mod rule;
 mod sum;
 mod sweep;
@@ -12,9 +11,6 @@ pub use gap::Gap;
 pub use gap::GapRule;
 pub use narrow::narrow_family;
 pub use progression::Progression;
-pub use refusal::Refusal;
-pub use refusal::RefusalDebug;
-pub use refusal::RefusalPartialEq;
 pub use rule::Rule;
 pub use sum::Sum;
 pub use sum::SumRule;
