@@ -1,0 +1,19 @@
+// A board: its stages, and every call that a client makes on it. All tables are lent to each call; a board holds numbers only.
+mod board;
+mod fill;
+mod log;
+mod numbers;
+mod stage;
+
+pub use board::Board;
+pub use board::Rejected;
+pub use numbers::Numbers;
+pub use stage::AtWork;
+pub use stage::AtWorkStage;
+pub use stage::Closed;
+pub use stage::ClosedStage;
+pub use stage::Filling;
+pub use stage::FillingStage;
+pub use stage::Settled;
+pub use stage::SettledStage;
+pub use stage::Stage;
