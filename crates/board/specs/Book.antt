@@ -15,6 +15,16 @@ use Rattle.cuts.specs.Checks.{past-width, unlawful, outside}
 use Rattle.cuts.specs.declared.cut.Cut.{Cut}
 use Rattle.board.specs.declared.numbers.Numbers.{Numbers}
 
+-- how many jobs a board has, its bed width, and how many rules and cuts its tables hold
+pub record Held : Type 0 where
+  pub jobs : ℕ
+  pub width : ℕ
+  pub rules : ℕ
+  pub cuts : ℕ
+
+abbrev pub held-by : Numbers → Held
+held-by b = record { jobs = b .n; width = b .w; rules = b .rules; cuts = b .cuts }
+
 -- 11: one of the lists holds a place not below w
 abbrev pub wide-list : {L : Type 0} → (L → ℕ → Bool) → ℕ → ℕ → List L → Option Code
 wide-list has limit w lists = first-fault (λ x. past-width limit w (has x)) 11 0 lists
@@ -36,32 +46,32 @@ open-refusal has limit n w opened =
     (wide-list has limit w (take n opened))))
 
 -- adding a rule, which is checked as the next one after those held
-abbrev pub add-refusal : {R : Type 0} → (R → ℕ → Bool) → Numbers → List R → R → Option Code
+abbrev pub add-refusal : {R : Type 0} → (R → ℕ → Bool) → Held → List R → R → Option Code
 add-refusal lawful b rules rule =
     then-check (fails-if (ltb (length rules) (b .rules)) 10)
-    (then-check (unlawful-rule lawful (b .n) (take (b .rules) rules ++ rule ∷ []))
+    (then-check (unlawful-rule lawful (b .jobs) (take (b .rules) rules ++ rule ∷ []))
     (fails-if (leb (length rules) (b .rules) || leb 64 (b .rules)) 16))
 
 -- closing
-abbrev pub close-refusal : {L R : Type 0} → (L → ℕ → Bool) → ℕ → (R → ℕ → Bool) → Numbers → List L → List R → Option Code
+abbrev pub close-refusal : {L R : Type 0} → (L → ℕ → Bool) → ℕ → (R → ℕ → Bool) → Held → List L → List R → Option Code
 close-refusal has limit lawful b opened rules =
-    then-check (fails-if (ltb (length opened) (b .n) || ltb (length rules) (b .rules)) 10)
-    (then-check (wide-list has limit (b .w) (take (b .n) opened))
-    (unlawful-rule lawful (b .n) (take (b .rules) rules)))
+    then-check (fails-if (ltb (length opened) (b .jobs) || ltb (length rules) (b .rules)) 10)
+    (then-check (wide-list has limit (b .width) (take (b .jobs) opened))
+    (unlawful-rule lawful (b .jobs) (take (b .rules) rules)))
 
 -- the job and the place given to a cut or a trial, and room for it in a log of so many slots
-abbrev pub room-refusal : Numbers → ℕ → ℕ → ℕ → Option Code
+abbrev pub room-refusal : Held → ℕ → ℕ → ℕ → Option Code
 room-refusal b log job place =
-    then-check (fails-if (leb (b .n) job) 14)
-    (then-check (fails-if (leb (b .w) place) 15)
+    then-check (fails-if (leb (b .jobs) job) 14)
+    (then-check (fails-if (leb (b .width) place) 15)
     (fails-if (leb log (b .cuts) || leb 1024 (b .cuts)) 16))
 
 -- a cut of a job and a place
-abbrev pub cut-refusal : Numbers → ℕ → ℕ → ℕ → Option Code
+abbrev pub cut-refusal : Held → ℕ → ℕ → ℕ → Option Code
 cut-refusal b log job place = then-check (fails-if (ltb log (b .cuts)) 10) (room-refusal b log job place)
 
 -- a return to k cuts
-abbrev pub return-refusal : Numbers → ℕ → ℕ → Option Code
+abbrev pub return-refusal : Held → ℕ → ℕ → Option Code
 return-refusal b log k = then-check (fails-if (ltb log (b .cuts)) 10) (fails-if (ltb (b .cuts) k) 17)
 
 -- how long the tables are that a call is lent
@@ -76,25 +86,25 @@ pub record Lengths : Type 0 where
   pub wake-ups : ℕ
 
 -- opened lists, rules, log or working memory are too short
-abbrev pub short-tables : ℕ → Numbers → Lengths → Bool
+abbrev pub short-tables : ℕ → Held → Lengths → Bool
 short-tables limit b l =
-    ltb (l .opened) (b .n) || (ltb (l .rules) (b .rules) || (ltb (l .log) (b .cuts)
-    || (ltb (l .working) (b .n) || (ltb (l .numbers) (8 * (b .n + limit)) || ltb (l .wake-ups) (b .rules)))))
+    ltb (l .opened) (b .jobs) || (ltb (l .rules) (b .rules) || (ltb (l .log) (b .cuts)
+    || (ltb (l .working) (b .jobs) || (ltb (l .numbers) (8 * (b .jobs + limit)) || ltb (l .wake-ups) (b .rules)))))
 
 -- what the first lists, rules and cuts of these tables hold: 11, 12, 13
-abbrev pub held-refusal : {L R : Type 0} → (L → ℕ → Bool) → ℕ → (R → ℕ → Bool) → Numbers → List L → List R → List Cut → Option Code
+abbrev pub held-refusal : {L R : Type 0} → (L → ℕ → Bool) → ℕ → (R → ℕ → Bool) → Held → List L → List R → List Cut → Option Code
 held-refusal has limit lawful b opened rules log =
-    then-check (wide-list has limit (b .w) (take (b .n) opened))
-    (then-check (unlawful-rule lawful (b .n) (take (b .rules) rules))
-    (outside-cut (b .n) (b .w) (take (b .cuts) log)))
+    then-check (wide-list has limit (b .width) (take (b .jobs) opened))
+    (then-check (unlawful-rule lawful (b .jobs) (take (b .rules) rules))
+    (outside-cut (b .jobs) (b .width) (take (b .cuts) log)))
 
 -- a settling, but for 20
-abbrev pub settle-refusal : {L R : Type 0} → (L → ℕ → Bool) → ℕ → (R → ℕ → Bool) → Numbers → List L → List R → List Cut → Lengths → Option Code
+abbrev pub settle-refusal : {L R : Type 0} → (L → ℕ → Bool) → ℕ → (R → ℕ → Bool) → Held → List L → List R → List Cut → Lengths → Option Code
 settle-refusal has limit lawful b opened rules log l =
-    then-check (fails-if (short-tables limit b l || ltb (l .standing) (b .n)) 10) (held-refusal has limit lawful b opened rules log)
+    then-check (fails-if (short-tables limit b l || ltb (l .standing) (b .jobs)) 10) (held-refusal has limit lawful b opened rules log)
 
 -- a trial of a job and a place
-abbrev pub trial-refusal : {L R : Type 0} → (L → ℕ → Bool) → ℕ → (R → ℕ → Bool) → Numbers → List L → List R → List Cut → Lengths → ℕ → ℕ → Option Code
+abbrev pub trial-refusal : {L R : Type 0} → (L → ℕ → Bool) → ℕ → (R → ℕ → Bool) → Held → List L → List R → List Cut → Lengths → ℕ → ℕ → Option Code
 trial-refusal has limit lawful b opened rules log l job place =
     then-check (fails-if (short-tables limit b l) 10)
     (then-check (held-refusal has limit lawful b opened rules log) (room-refusal b (l .log) job place))
@@ -106,8 +116,8 @@ named-at names (r ∷ rs) zero = names r
 named-at names (r ∷ rs) (suc i) = named-at names rs i
 
 -- a group question about a rule
-abbrev pub group-refusal : {L R : Type 0} → (L → ℕ → Bool) → ℕ → (R → ℕ → Bool) → (R → Option Progression) → Numbers → List L → List R → List Cut → Lengths → ℕ → Option Code
+abbrev pub group-refusal : {L R : Type 0} → (L → ℕ → Bool) → ℕ → (R → ℕ → Bool) → (R → Option Progression) → Held → List L → List R → List Cut → Lengths → ℕ → Option Code
 group-refusal has limit lawful names b opened rules log l rule =
-    then-check (fails-if (short-tables limit b l || ltb (l .group) (b .n)) 10)
+    then-check (fails-if (short-tables limit b l || ltb (l .group) (b .jobs)) 10)
     (then-check (held-refusal has limit lawful b opened rules log)
     (fails-if (not (isSome (named-at names (take (b .rules) rules) rule))) 18))

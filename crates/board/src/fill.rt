@@ -4,7 +4,7 @@ ghost use Prim.Native.Nat.{_+_, _≤_, _<_};
 ghost use lib.ListN.{length, set};
 ghost use Rattle.std.specs.Results.{Cases};
 ghost use Rattle.refusals.specs.Codes.{refusal-of};
-ghost use Rattle.board.specs.Book.{open-refusal, add-refusal, close-refusal};
+ghost use Rattle.board.specs.Book.{open-refusal, add-refusal, close-refusal, held-by};
 ghost use Rattle.board.specs.Outcomes.{refusal-back, Opened, Same};
 use crate::board::Board;
 use crate::board::Rejected;
@@ -56,7 +56,7 @@ impl Board<Filling> {
 
 impl Numbers {
     fn check_add<R: Rule>(&self, rules: &[R], rule: &R) -> Result<(), Refusal>
-        ensures refusal { λ r. ⌜ refusal-of r ≡ add-refusal lawful (now (self .entry)) (now (rules .entry)) (now (rule .entry)) ⌝ }
+        ensures refusal { λ r. ⌜ refusal-of r ≡ add-refusal lawful (held-by (now (self .entry))) (now (rules .entry)) (now (rule .entry)) ⌝ }
         ensures room { λ r. ⌜ Cases r (λ _. (now (self .entry) .rules < length (now (rules .entry))) × (now (self .entry) .rules < 64)) (λ _. Unit {0}) ⌝ }
     {
         let held = self.rules;
@@ -71,7 +71,7 @@ impl Numbers {
     }
 
     fn check_close<L: PlaceSet, R: Rule>(&self, opened: &[L], rules: &[R]) -> Result<(), Refusal>
-        ensures { λ r. ⌜ refusal-of r ≡ close-refusal (L·PlaceSet .has) (L·PlaceSet .limit) (R·Rule .lawful) (now (self .entry)) (now (opened .entry)) (now (rules .entry)) ⌝ }
+        ensures { λ r. ⌜ refusal-of r ≡ close-refusal (L·PlaceSet .has) (L·PlaceSet .limit) (R·Rule .lawful) (held-by (now (self .entry))) (now (opened .entry)) (now (rules .entry)) ⌝ }
     {
         let n = self.n as usize;
         let held = self.rules;
@@ -87,7 +87,7 @@ impl<S: Stage + Drop> Board<S> {
     // One rule more, stored after those held.
     pub fn add_rule<R: Rule + Copy>(&mut self, rules: &mut [R], rule: R) -> Result<(), Refusal>
         requires { ⌜ S·Stage .fills (now self .stage) ⌝ }
-        ensures refusal { λ r. ⌜ refusal-of r ≡ add-refusal (R·Rule .lawful) (now (self .entry) .numbers) (now (rules .entry)) rule ⌝ }
+        ensures refusal { λ r. ⌜ refusal-of r ≡ add-refusal (R·Rule .lawful) (held-by (now (self .entry) .numbers)) (now (rules .entry)) rule ⌝ }
         ensures stage { λ _. ⌜ now (self .exit) .stage ≡ now (self .entry) .stage ⌝ }
         ensures rules { λ r. ⌜ Cases r (λ _. Same (now (self .entry) .numbers) (now (self .entry) .numbers .rules + 1) (now (self .entry) .numbers .cuts) (now (self .exit) .numbers) × (now (rules .exit) ≡ set (now (rules .entry)) (now (self .entry) .numbers .rules) rule)) (λ _. Same (now (self .entry) .numbers) (now (self .entry) .numbers .rules) (now (self .entry) .numbers .cuts) (now (self .exit) .numbers) × (now (rules .exit) ≡ now (rules .entry))) ⌝ }
     {
@@ -110,7 +110,7 @@ impl<S: Stage + Drop> Board<S> {
         rules: &[R],
     ) -> Result<Board<AtWork>, Rejected<Board<S>>>
         requires { ⌜ S·Stage .fills (self .stage) ⌝ }
-        ensures refusal { λ r. ⌜ refusal-back r ≡ close-refusal (L·PlaceSet .has) (L·PlaceSet .limit) (R·Rule .lawful) (self .numbers) (now (opened .entry)) (now (rules .entry)) ⌝ }
+        ensures refusal { λ r. ⌜ refusal-back r ≡ close-refusal (L·PlaceSet .has) (L·PlaceSet .limit) (R·Rule .lawful) (held-by (self .numbers)) (now (opened .entry)) (now (rules .entry)) ⌝ }
         ensures board { λ r. ⌜ Cases r (λ b. Same (self .numbers) (self .numbers .rules) 0 (b .numbers)) (λ e. e .board ≡ self) ⌝ }
     {
         match self.numbers.check_close(opened, rules) {

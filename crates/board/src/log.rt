@@ -4,7 +4,7 @@ ghost use Prim.Native.Nat.{_+_, _<_};
 ghost use lib.ListN.{length, set};
 ghost use Rattle.std.specs.Results.{Cases};
 ghost use Rattle.refusals.specs.Codes.{refusal-of};
-ghost use Rattle.board.specs.Book.{cut-refusal, return-refusal};
+ghost use Rattle.board.specs.Book.{cut-refusal, return-refusal, held-by};
 ghost use Rattle.board.specs.Outcomes.{refusal-back, Same};
 use crate::board::Board;
 use crate::board::Rejected;
@@ -18,7 +18,7 @@ use refusals::Refusal;
 impl Numbers {
     // The checks of a cut, and the last ones of a trial.
     pub fn check_cut(&self, log: usize, job: u16, place: u16) -> Result<(), Refusal>
-        ensures refusal { λ r. ⌜ refusal-of r ≡ cut-refusal (now (self .entry)) log job place ⌝ }
+        ensures refusal { λ r. ⌜ refusal-of r ≡ cut-refusal (held-by (now (self .entry))) log job place ⌝ }
         ensures room { λ r. ⌜ Cases r (λ _. (now (self .entry) .cuts < log) × (now (self .entry) .cuts < 1024) × (job < now (self .entry) .n)) (λ _. Unit {0}) ⌝ }
     {
         if log < self.cuts {
@@ -37,7 +37,7 @@ impl Numbers {
     }
 
     fn check_return(&self, log: usize, k: usize) -> Result<(), Refusal>
-        ensures { λ r. ⌜ refusal-of r ≡ return-refusal (now (self .entry)) log k ⌝ }
+        ensures { λ r. ⌜ refusal-of r ≡ return-refusal (held-by (now (self .entry))) log k ⌝ }
     {
         if log < self.cuts {
             return Err(Refusal::TableTooShort);
@@ -59,7 +59,7 @@ impl<S: Stage + Drop> Board<S> {
         place: u16,
     ) -> Result<Board<AtWork>, Rejected<Board<S>>>
         requires { ⌜ S·Stage .shut (self .stage) ⌝ }
-        ensures refusal { λ r. ⌜ refusal-back r ≡ cut-refusal (self .numbers) (length (now (log .entry))) job place ⌝ }
+        ensures refusal { λ r. ⌜ refusal-back r ≡ cut-refusal (held-by (self .numbers)) (length (now (log .entry))) job place ⌝ }
         ensures board { λ r. ⌜ Cases r (λ b. Same (self .numbers) (self .numbers .rules) (self .numbers .cuts + 1) (b .numbers) × (now (log .exit) ≡ set (now (log .entry)) (self .numbers .cuts) (record { action = action; job = job; place = place }))) (λ e. (e .board ≡ self) × (now (log .exit) ≡ now (log .entry))) ⌝ }
     {
         match self.numbers.check_cut(log.len(), job, place) {
@@ -90,7 +90,7 @@ impl<S: Stage + Drop> Board<S> {
     // The first `k` cuts alone; the board is then at work. The log keeps its content.
     pub fn return_to(self, log: &[Cut], k: usize) -> Result<Board<AtWork>, Rejected<Board<S>>>
         requires { ⌜ S·Stage .shut (self .stage) ⌝ }
-        ensures refusal { λ r. ⌜ refusal-back r ≡ return-refusal (self .numbers) (length (now (log .entry))) k ⌝ }
+        ensures refusal { λ r. ⌜ refusal-back r ≡ return-refusal (held-by (self .numbers)) (length (now (log .entry))) k ⌝ }
         ensures board { λ r. ⌜ Cases r (λ b. Same (self .numbers) (self .numbers .rules) k (b .numbers)) (λ e. e .board ≡ self) ⌝ }
     {
         match self.numbers.check_return(log.len(), k) {
