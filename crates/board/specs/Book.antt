@@ -9,10 +9,11 @@ use Rattle.std.specs.Options.{isSome}
 use Rattle.std.specs.declared.option.Option.{Option}
 use Rattle.std.specs.declared.option.Option.the-variants.{None}
 use Rattle.refusals.specs.Codes.{Code, then-check, fails-if, first-fault}
-use Rattle.rules.specs.Refusals.{no-board}
+use Rattle.rules.specs.Refusals.{no-board, unlawful}
 use Rattle.rules.specs.declared.progression.Progression.{Progression}
-use Rattle.cuts.specs.Checks.{past-width, unlawful, outside}
+use Rattle.cuts.specs.Checks.{past-width, outside}
 use Rattle.cuts.specs.declared.cut.Cut.{Cut}
+use Rattle.board.specs.declared.lengths.Lengths.{Lengths}
 use Rattle.board.specs.declared.numbers.Numbers.{Numbers}
 
 -- how many jobs a board has, its bed width, and how many rules and cuts its tables hold
@@ -74,22 +75,11 @@ cut-refusal b log job place = then-check (fails-if (ltb log (b .cuts)) 10) (room
 abbrev pub return-refusal : Held → ℕ → ℕ → Option Code
 return-refusal b log k = then-check (fails-if (ltb log (b .cuts)) 10) (fails-if (ltb (b .cuts) k) 17)
 
--- how long the tables are that a call is lent
-pub record Lengths : Type 0 where
-  pub opened : ℕ
-  pub rules : ℕ
-  pub log : ℕ
-  pub standing : ℕ
-  pub group : ℕ
-  pub working : ℕ
-  pub numbers : ℕ
-  pub wake-ups : ℕ
-
 -- opened lists, rules, log or working memory are too short
 abbrev pub short-tables : ℕ → Held → Lengths → Bool
 short-tables limit b l =
     ltb (l .opened) (b .jobs) || (ltb (l .rules) (b .rules) || (ltb (l .log) (b .cuts)
-    || (ltb (l .working) (b .jobs) || (ltb (l .numbers) (8 * (b .jobs + limit)) || ltb (l .wake-ups) (b .rules)))))
+    || (ltb (l .working) (b .jobs) || (ltb (l .numbers) (8 * (b .jobs + limit)) || ltb (l .wakes) (b .rules)))))
 
 -- what the first lists, rules and cuts of these tables hold: 11, 12, 13
 abbrev pub held-refusal : {L R : Type 0} → (L → ℕ → Bool) → ℕ → (R → ℕ → Bool) → Held → List L → List R → List Cut → Option Code

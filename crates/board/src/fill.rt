@@ -13,11 +13,11 @@ use crate::stage::AtWork;
 use crate::stage::Filling;
 use crate::stage::Stage;
 use cuts::check_lists;
-use cuts::check_offered;
-use cuts::check_rules;
 use places::PlaceSet;
 use refusals::Refusal;
 use rules::Rule;
+use rules::check_offered;
+use rules::check_rules;
 
 fn check_open<L: PlaceSet>(n: u16, w: u16, opened: &[L]) -> Result<(), Refusal>
     ensures refusal { λ r. ⌜ refusal-of r ≡ open-refusal has limit n w (now (opened .entry)) ⌝ }

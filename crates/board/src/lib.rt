@@ -1,12 +1,15 @@
 // A board: its stages, and every call that a client makes on it. All tables are lent to each call; a board holds numbers only.
 mod board;
+mod check;
 mod fill;
+mod lengths;
 mod log;
 mod numbers;
 mod stage;
 
 pub use board::Board;
 pub use board::Rejected;
+pub use lengths::Lengths;
 pub use numbers::Numbers;
 pub use stage::AtWork;
 pub use stage::AtWorkStage;

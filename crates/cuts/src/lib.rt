@@ -5,8 +5,6 @@ mod cut;
 
 pub use check::check_cuts;
 pub use check::check_lists;
-pub use check::check_offered;
-pub use check::check_rules;
 pub use current::write_current;
 pub use cut::Action;
 pub use cut::ActionPartialEq;

@@ -9,6 +9,10 @@ use Rattle.refusals.specs.Codes.{Code, then-check, fails-if}
 abbrev pub no-board : ℕ → Bool
 no-board n = eqb n 0 || ltb 256 n
 
+-- a rule of which `lawful` tells is not lawful for n jobs
+abbrev pub unlawful : {R : Type 0} → (R → ℕ → Bool) → ℕ → R → Bool
+unlawful lawful n r = not (lawful r n)
+
 -- working memory is too short for n lists of a kind with this limit
 abbrev pub short-memory : ℕ → ℕ → ℕ → ℕ → Bool
 short-memory n limit lists numbers = ltb lists n || ltb numbers (8 * (n + limit))

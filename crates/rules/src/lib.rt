@@ -1,4 +1,5 @@
 // Rules over jobs, narrowing by one rule, and the rules on three jobs.
+mod check;
 mod gap;
 mod narrow;
 mod progression;
@@ -7,6 +8,8 @@ mod sum;
 mod sweep;
 mod triple;
 
+pub use check::check_offered;
+pub use check::check_rules;
 pub use gap::Gap;
 pub use gap::GapRule;
 pub use narrow::narrow_family;

@@ -1,8 +1,8 @@
 use mathlib.Core.Bool.{not}
 use mathlib.Core.Path.{refl, sym, ap}
 use Rattle.refusals.proofs.Faults.{fault-here, fault-next, fault-none, all-pass}
-use Rattle.cuts.specs.Checks.{unlawful}
-use Rattle.cuts.proofs.check.check_rules.Needs as need
+use Rattle.rules.specs.Refusals.{unlawful}
+use Rattle.rules.proofs.check.check_rules.Needs as need
 
 pub loop-i-holds : need.loop-i-holds
 loop-i-holds g c = refl

@@ -6,8 +6,8 @@ use lib.ListN.{length}
 use Rattle.std.specs.declared.option.Option.the-variants.{Some, None}
 use Rattle.refusals.specs.Codes.{code, then-check}
 use Rattle.refusals.proofs.Faults.{fault-push}
-use Rattle.cuts.specs.Checks.{unlawful}
-use Rattle.cuts.proofs.check.check_offered.Needs as need
+use Rattle.rules.specs.Refusals.{unlawful}
+use Rattle.rules.proofs.check.check_offered.Needs as need
 
 pub returns-in-Err : need.returns-in-Err
 returns-in-Err g c =
