@@ -1,11 +1,13 @@
 -- The book: which refusal each call of a board gives, by the numbers that the board holds and the tables that the call is lent.
 -- A list kind is given by `has` and its limit, a rule kind by `lawful`.
-use mathlib.Core.Bool.{Bool, not, _||_}
+use mathlib.Core.Bool.{Bool, true, not, _||_}
+use mathlib.Core.Path.{_≡_}
 use mathlib.Core.List.{List, [], _∷_, _++_}
-use Prim.Native.Nat.{ℕ, zero, suc, _+_, _*_}
+use Prim.Native.Nat.{ℕ, zero, suc, _+_, _*_, _≤_}
 use lib.Dec.{eqb, ltb, leb}
 use lib.ListN.{length, take}
 use Rattle.std.specs.Options.{isSome}
+use Rattle.std.specs.shelf.Lists.{All}
 use Rattle.std.specs.declared.option.Option.{Option}
 use Rattle.std.specs.declared.option.Option.the-variants.{None}
 use Rattle.refusals.specs.Codes.{Code, then-check, fails-if, first-fault}
@@ -111,3 +113,13 @@ group-refusal has limit lawful names b opened rules log l rule =
     then-check (fails-if (short-tables limit b l || ltb (l .group) (b .jobs)) 10)
     (then-check (held-refusal has limit lawful b opened rules log)
     (fails-if (not (isSome (named-at names (take (b .rules) rules) rule))) 18))
+
+-- what the checks of tables and held rules make sure of
+pub record Ready {R : Type 0} (limit : ℕ) (lawful : R → ℕ → Bool) (b : Held) (rules : List R) (l : Lengths) : Type 0 where
+  pub opened : b .jobs ≤ l .opened
+  pub held : b .rules ≤ l .rules
+  pub counted : b .cuts ≤ l .log
+  pub working : b .jobs ≤ l .working
+  pub numbers : 8 * (b .jobs + limit) ≤ l .numbers
+  pub wakes : b .rules ≤ l .wakes
+  pub all-lawful : All (λ r. lawful r (b .jobs) ≡ true) (take (b .rules) rules)

@@ -11,6 +11,7 @@ use Rattle.refusals.specs.Codes.{Code, says}
 use Rattle.cuts.specs.declared.cut.Cut.{Cut}
 use Rattle.board.specs.declared.numbers.Numbers.{Numbers}
 use Rattle.board.specs.declared.board.Rejected.{Rejected}
+use Rattle.board.specs.declared.lengths.Lengths.{Lengths}
 
 -- what a call that hands the board back answered: nothing, or its refusal
 abbrev pub refusal-back : {T B : Type 0} → Result T (Rejected B) → Option Code
@@ -30,3 +31,8 @@ pub record Same (a : Numbers) (rules cuts : ℕ) (b : Numbers) : Type 0 where
   pub width : b .w ≡ a .w
   pub held : b .rules ≡ rules
   pub counted : b .cuts ≡ cuts
+
+-- the lengths of tables
+abbrev pub lengths : ℕ → ℕ → ℕ → ℕ → ℕ → ℕ → ℕ → ℕ → Lengths
+lengths opened rules log standing group working numbers wakes =
+    record { opened = opened; rules = rules; log = log; standing = standing; group = group; working = working; numbers = numbers; wakes = wakes }

@@ -5,6 +5,7 @@ mod fill;
 mod lengths;
 mod log;
 mod numbers;
+mod settle;
 mod stage;
 
 pub use board::Board;
