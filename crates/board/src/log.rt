@@ -4,7 +4,7 @@ ghost use Prim.Native.Nat.{_+_, _<_};
 ghost use lib.ListN.{length, set};
 ghost use Rattle.std.specs.Results.{Cases};
 ghost use Rattle.refusals.specs.Codes.{refusal-of};
-ghost use Rattle.board.specs.Book.{cut-refusal, return-refusal, held-by};
+ghost use Rattle.board.specs.Book.{cut-refusal, return-refusal, room-refusal, held-by};
 ghost use Rattle.board.specs.Outcomes.{refusal-back, Same};
 use crate::board::Board;
 use crate::board::Rejected;
@@ -16,14 +16,11 @@ use cuts::Cut;
 use refusals::Refusal;
 
 impl Numbers {
-    // The checks of a cut, and the last ones of a trial.
-    pub fn check_cut(&self, log: usize, job: u16, place: u16) -> Result<(), Refusal>
-        ensures refusal { λ r. ⌜ refusal-of r ≡ cut-refusal (held-by (now (self .entry))) log job place ⌝ }
+    // The job and the place given are the board's, and the log has room for one more cut.
+    pub fn check_room(&self, log: usize, job: u16, place: u16) -> Result<(), Refusal>
+        ensures refusal { λ r. ⌜ refusal-of r ≡ room-refusal (held-by (now (self .entry))) log job place ⌝ }
         ensures room { λ r. ⌜ Cases r (λ _. (now (self .entry) .cuts < log) × (now (self .entry) .cuts < 1024) × (job < now (self .entry) .n)) (λ _. Unit {0}) ⌝ }
     {
-        if log < self.cuts {
-            return Err(Refusal::TableTooShort);
-        }
         if job >= self.n {
             return Err(Refusal::NoSuchJob);
         }
@@ -34,6 +31,16 @@ impl Numbers {
             return Err(Refusal::Full);
         }
         Ok(())
+    }
+
+    fn check_cut(&self, log: usize, job: u16, place: u16) -> Result<(), Refusal>
+        ensures refusal { λ r. ⌜ refusal-of r ≡ cut-refusal (held-by (now (self .entry))) log job place ⌝ }
+        ensures room { λ r. ⌜ Cases r (λ _. (now (self .entry) .cuts < log) × (now (self .entry) .cuts < 1024) × (job < now (self .entry) .n)) (λ _. Unit {0}) ⌝ }
+    {
+        if log < self.cuts {
+            return Err(Refusal::TableTooShort);
+        }
+        self.check_room(log, job, place)
     }
 
     fn check_return(&self, log: usize, k: usize) -> Result<(), Refusal>
