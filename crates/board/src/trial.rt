@@ -87,3 +87,50 @@ impl Numbers {
         Ok(())
     }
 }
+
+impl Numbers {
+    // Whether the greatest consistent family inside the current lists, with the job fixed to the place, leaves every job a place.
+    fn trial<L: PlaceSet + Copy, R: Rule>(
+        &self,
+        opened: &[L],
+        rules: &[R],
+        log: &mut [Cut],
+        working: &mut [L],
+        numbers: &mut [u16],
+        wake_ups: &mut [WakeUp],
+        job: u16,
+        place: u16,
+    ) -> Result<bool, Refusal>
+        ensures answer { λ r. ⌜ TrialSays (R·Rule .scope) (R·Rule .admits) (take (now (self .entry) .rules) (now (rules .entry))) (now (self .entry) .n) (fixed job place (current-lists (L·PlaceSet .has) (held-by (now (self .entry))) (now (opened .entry)) (now (log .entry)))) (trial-refusal (L·PlaceSet .has) (L·PlaceSet .limit) (R·Rule .lawful) (held-by (now (self .entry))) (now (opened .entry)) (now (rules .entry)) (now (log .entry)) (lengths (length (now (opened .entry))) (length (now (rules .entry))) (length (now (log .entry))) 0 0 (length (now (working .entry))) (length (now (numbers .entry))) (length (now («wake_ups» .entry)))) job place) r ⌝ }
+        ensures log { λ _. ⌜ now (log .exit) ≡ now (log .entry) ⌝ }
+    {
+        let tables = Lengths {
+            opened: opened.len(),
+            rules: rules.len(),
+            log: log.len(),
+            standing: 0,
+            group: 0,
+            working: working.len(),
+            numbers: numbers.len(),
+            wakes: wake_ups.len(),
+        };
+        self.check_trial(opened, rules, log, &tables, job, place)?;
+        let at = self.cuts;
+        let old = log[at];
+        log[at] = Cut {
+            action: Action::Fix,
+            job: job as u8,
+            place,
+        };
+        let guard = TrialGuard { log, at, old };
+        if let Err(refusal) = self.check_held(opened, rules, guard.counted()) {
+            return Err(refusal);
+        }
+        let n = self.n as usize;
+        let held = self.rules;
+        match settle_current(&opened[0..n], &rules[0..held], guard.cuts(), &mut working[0..n], numbers, wake_ups) {
+            Some(_) => Ok(false),
+            None => Ok(true),
+        }
+    }
+}
