@@ -77,6 +77,10 @@ cut-refusal b log job place = then-check (fails-if (ltb log (b .cuts)) 10) (room
 abbrev pub return-refusal : Held → ℕ → ℕ → Option Code
 return-refusal b log k = then-check (fails-if (ltb log (b .cuts)) 10) (fails-if (ltb (b .cuts) k) 17)
 
+-- reading the standing lists
+abbrev pub standing-refusal : Held → ℕ → Option Code
+standing-refusal b standing = fails-if (ltb standing (b .jobs)) 10
+
 -- opened lists, rules, log or working memory are too short
 abbrev pub short-tables : ℕ → Held → Lengths → Bool
 short-tables limit b l =

@@ -7,6 +7,7 @@ mod log;
 mod numbers;
 mod settle;
 mod stage;
+mod standing;
 mod trial;
 
 pub use board::Board;

@@ -134,3 +134,24 @@ impl Numbers {
         }
     }
 }
+
+impl<S: Stage + Drop> Board<S> {
+    // Could this job still take that place? Nothing but working memory changes.
+    pub fn trial<L: PlaceSet + Copy, R: Rule>(
+        &self,
+        opened: &[L],
+        rules: &[R],
+        log: &mut [Cut],
+        working: &mut [L],
+        numbers: &mut [u16],
+        wake_ups: &mut [WakeUp],
+        job: u16,
+        place: u16,
+    ) -> Result<bool, Refusal>
+        requires { ⌜ S·Stage .shut (now self .stage) ⌝ }
+        ensures answer { λ r. ⌜ TrialSays (R·Rule .scope) (R·Rule .admits) (take (now (self .entry) .numbers .rules) (now (rules .entry))) (now (self .entry) .numbers .n) (fixed job place (current-lists (L·PlaceSet .has) (held-by (now (self .entry) .numbers)) (now (opened .entry)) (now (log .entry)))) (trial-refusal (L·PlaceSet .has) (L·PlaceSet .limit) (R·Rule .lawful) (held-by (now (self .entry) .numbers)) (now (opened .entry)) (now (rules .entry)) (now (log .entry)) (lengths (length (now (opened .entry))) (length (now (rules .entry))) (length (now (log .entry))) 0 0 (length (now (working .entry))) (length (now (numbers .entry))) (length (now («wake_ups» .entry)))) job place) r ⌝ }
+        ensures log { λ _. ⌜ now (log .exit) ≡ now (log .entry) ⌝ }
+    {
+        self.numbers.trial(opened, rules, log, working, numbers, wake_ups, job, place)
+    }
+}
