@@ -16,6 +16,10 @@ use Rattle.refusals.specs.Codes.{Code, code, says}
 use Rattle.places.specs.Families.{Family, family, fixed}
 use Rattle.cuts.specs.Current.{current}
 use Rattle.cuts.specs.declared.cut.Cut.{Cut}
+use Rattle.rules.specs.Progressions.{jobs-of}
+use Rattle.rules.specs.declared.progression.Progression.{Progression}
+use Rattle.distinct.specs.Groups.{GroupTold}
+use Rattle.distinct.specs.declared.group.Deficiency.{Deficiency}
 use Rattle.settling.specs.Consistency.{Settled, Complete, ShortAt, Lowest, KeepsPlacings}
 use Rattle.board.specs.Book.{Held}
 
@@ -34,6 +38,13 @@ SettleSays scope admits rules n f checks (Some c) =
 abbrev pub TrialSays : {R : Type 0} → (R → List ℕ) → (R → List ℕ → Bool) → List R → ℕ → Family → Option Code → Result Bool Refusal → Type 0
 TrialSays scope admits rules n f checks (Ok yes-said) = (checks ≡ None) × Decides yes-said (Complete scope admits rules n f)
 TrialSays scope admits rules n f checks (Err e) = checks ≡ Some (says e)
+
+-- what a group question says where its checks say so: their refusal, with the table as it was; or the group of the jobs that the rule
+-- names, written to the table's front alone
+abbrev pub GroupSays : ℕ → Family → Option Progression → Option Code → List ℕ → List ℕ → Result Deficiency Refusal → Type 0
+GroupSays limit f named checks before after (Ok d) =
+    (checks ≡ None) × ((p : Progression) × (named ≡ Some p) × GroupTold limit f (jobs-of p) before after (d .count) (d .deficiency))
+GroupSays limit f named checks before after (Err e) = (checks ≡ Some (says e)) × (after ≡ before)
 
 -- the first n standing lists are the greatest consistent family inside f, every whole placing lies inside them, and the lists past
 -- them are as they were

@@ -4,8 +4,8 @@ use refusals::Refusal;
 // A board at a stage.
 #[derive(Drop)]
 pub struct Board<S> {
-    pub stage: S,
-    pub numbers: Numbers,
+    pub(crate) stage: S,
+    pub(crate) numbers: Numbers,
 }
 
 // A call that was refused: why, and the board that it was made on, unchanged.

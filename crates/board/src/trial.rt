@@ -128,7 +128,14 @@ impl Numbers {
         }
         let n = self.n as usize;
         let held = self.rules;
-        match settle_current(&opened[0..n], &rules[0..held], guard.cuts(), &mut working[0..n], numbers, wake_ups) {
+        match settle_current(
+            &opened[0..n],
+            &rules[0..held],
+            guard.cuts(),
+            &mut working[0..n],
+            numbers,
+            wake_ups,
+        ) {
             Some(_) => Ok(false),
             None => Ok(true),
         }
@@ -152,6 +159,7 @@ impl<S: Stage + Drop> Board<S> {
         ensures answer { λ r. ⌜ TrialSays (R·Rule .scope) (R·Rule .admits) (take (now (self .entry) .numbers .rules) (now (rules .entry))) (now (self .entry) .numbers .n) (fixed job place (current-lists (L·PlaceSet .has) (held-by (now (self .entry) .numbers)) (now (opened .entry)) (now (log .entry)))) (trial-refusal (L·PlaceSet .has) (L·PlaceSet .limit) (R·Rule .lawful) (held-by (now (self .entry) .numbers)) (now (opened .entry)) (now (rules .entry)) (now (log .entry)) (lengths (length (now (opened .entry))) (length (now (rules .entry))) (length (now (log .entry))) 0 0 (length (now (working .entry))) (length (now (numbers .entry))) (length (now («wake_ups» .entry)))) job place) r ⌝ }
         ensures log { λ _. ⌜ now (log .exit) ≡ now (log .entry) ⌝ }
     {
-        self.numbers.trial(opened, rules, log, working, numbers, wake_ups, job, place)
+        self.numbers
+            .trial(opened, rules, log, working, numbers, wake_ups, job, place)
     }
 }
