@@ -2,6 +2,7 @@
 mod board;
 mod check;
 mod fill;
+mod group;
 mod lengths;
 mod log;
 mod numbers;

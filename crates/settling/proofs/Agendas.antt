@@ -18,7 +18,7 @@ use Rattle.theory.specs.Counts.{bit, sum, count}
 use Rattle.theory.proofs.Sums.{sum-zero, sum-add, sum-at, sum-eq, bit-one, count-most, count-lt}
 use Rattle.settling.specs.declared.agenda.WakeUp.{WakeUp}
 use Rattle.settling.specs.declared.agenda.Agenda.{Agenda}
-use Rattle.settling.specs.Agenda.{times, waits, line, joined, Agreed, TakenOne}
+use Rattle.settling.specs.Agenda.{times, waits, line, Agreed, TakenOne}
 
 bit-at : (r : ℕ) → bit (eqb r r) ≡ 1
 bit-at r = ap bit (eq-eqb r r refl)

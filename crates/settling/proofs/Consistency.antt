@@ -1,21 +1,20 @@
 -- Narrowing keeps every consistent family, and what narrowing leaves is consistent; the laws of the greatest consistent family.
 use mathlib.Core.Path.{_≡_, refl, sym, ap, subst, _∙_}
-use mathlib.Core.Bool.{Bool, true, false, _&&_, not}
+use mathlib.Core.Bool.{Bool, true, _&&_}
 use mathlib.Core.List.{List, [], _∷_, map}
-use mathlib.Core.Logic.{_⊎_, inl, inr, ⊎-elim}
-use Prim.Native.Nat.{ℕ, zero, suc, _+_, _<_, _≤_}
-use native.Mathlib.Omega.{arith}
+use mathlib.Core.Logic.{⊎-elim}
+use Prim.Native.Nat.{ℕ, zero, suc, _<_}
 use native.Mathlib.Nat.{not-suc-le-zero, le-of-suc-le-suc}
 use lib.Dec.{eqb, ltb}
 use lib.ListN.{length, getD}
 use Rattle.std.specs.shelf.Lists.{All, Has}
 use Rattle.std.proofs.shelf.Elements.{all-has, all-has-itself, all-weaker}
-use Rattle.std.proofs.shelf.Tests.{cases-eq, or-left, or-right, eq-eqb, eqb-true, ltb-true, lt-ltb, and-parts, and-from}
+use Rattle.std.proofs.shelf.Tests.{or-left, or-right, eq-eqb, eqb-true, ltb-true, lt-ltb, and-parts, and-from}
 use Rattle.theory.specs.Lists.{member}
 use Rattle.places.specs.Families.{Family, Inside}
-use Rattle.rules.specs.Narrowing.{Support, Narrowed, Misses, Scope}
+use Rattle.rules.specs.Narrowing.{Narrowed, Misses, Scope}
 use Rattle.rules.proofs.Narrowing.{support-mono, Stands, find}
-use Rattle.settling.specs.Consistency.{Consistent, AllConsistent, InGreatest, Settled, Placed, Complete, ShortAt, WholePlacing}
+use Rattle.settling.specs.Consistency.{Consistent, AllConsistent, Settled, WholePlacing}
 
 pub member-at : (scope : List ℕ) (k : ℕ) → k < length scope → member scope (getD scope k 0) ≡ true
 member-at [] k l = absurd (not-suc-le-zero l)

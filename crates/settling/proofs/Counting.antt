@@ -1,6 +1,6 @@
 -- How many places the lists of a table hold together.
-use mathlib.Core.Path.{_≡_, refl, sym, ap, subst, _∙_}
-use mathlib.Core.Bool.{Bool, true, false}
+use mathlib.Core.Path.{_≡_, ap}
+use mathlib.Core.Bool.{Bool, true}
 use mathlib.Core.List.{List, [], _∷_}
 use Prim.Native.Nat.{ℕ, zero, suc, _+_, _*_, _<_, _≤_}
 use native.Mathlib.Nat.{mul-le-mul-right, add-mul, one-mul}
@@ -8,7 +8,7 @@ use native.Mathlib.Omega.{arith}
 use lib.ListN.{length}
 use Rattle.theory.specs.Counts.{count}
 use Rattle.theory.proofs.Sums.{count-le, count-tight}
-use Rattle.places.specs.Families.{Family, family, Inside}
+use Rattle.places.specs.Families.{family, Inside}
 
 abbrev pub total : {L : Type 0} → (L → ℕ → Bool) → ℕ → List L → ℕ
 total has limit [] = 0

@@ -11,12 +11,12 @@ use lib.ListN.{length, getD}
 use Rattle.std.proofs.shelf.Tests.{eqb-true, and-parts, both-ways, false≢true}
 use Rattle.theory.specs.Lists.{member}
 use Rattle.theory.proofs.Sums.{or-cases}
-use Rattle.places.specs.Families.{Family, Inside}
+use Rattle.places.specs.Families.{Family}
 use Rattle.rules.specs.Narrowing.{Support, Drawn}
 use Rattle.rules.specs.Progressions.{no-place-twice}
 use Rattle.rules.specs.Triples.{triple, is-sum}
 use Rattle.settling.specs.Consistency.{Consistent}
-use Rattle.settling.specs.Theorems.{Constraint, OrderFree, SettledStays, CutsRestoreNothing, PlacingsStay, MissingUnused, three-lists, three-rules, ConverseFails}
+use Rattle.settling.specs.Theorems.{Constraint, OrderFree, SettledStays, CutsRestoreNothing, PlacingsStay, MissingUnused, three-lists, ConverseFails}
 use Rattle.settling.proofs.Consistency.{settled, settled-larger, settled-again, settled-members, settled-placing}
 
 same-bool : (s t : Bool) → (s ≡ true → t ≡ true) → (t ≡ true → s ≡ true) → s ≡ t

@@ -1,8 +1,8 @@
 -- What the counts of settled lists say of the jobs.
-use mathlib.Core.Path.{_≡_, refl, sym, ap, subst, _∙_}
+use mathlib.Core.Path.{_≡_, refl}
 use mathlib.Core.Bool.{Bool, true, false}
 use mathlib.Core.List.{List}
-use Prim.Native.Nat.{ℕ, zero, suc, _+_, _<_, _≤_}
+use Prim.Native.Nat.{ℕ, zero, suc, _+_, _<_}
 use native.Mathlib.Omega.{arith}
 use lib.ListN.{length, getD}
 use Rattle.std.specs.declared.option.Option.{Option}
@@ -10,7 +10,7 @@ use Rattle.std.specs.declared.option.Option.the-variants.{Some, None}
 use Rattle.theory.specs.Counts.{bit, sum, count}
 use Rattle.theory.proofs.Sums.{count-pos}
 use Rattle.places.specs.Families.{Family}
-use Rattle.settling.specs.Consistency.{InGreatest, Settled, Placed, Lowest}
+use Rattle.settling.specs.Consistency.{Settled, Placed, Lowest}
 use Rattle.settling.specs.Waking.{Noted, FirstZero}
 
 -- a positive count has an element

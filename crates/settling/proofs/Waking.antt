@@ -4,7 +4,7 @@ use mathlib.Core.Bool.{Bool, true, false, cond, not, _||_}
 use mathlib.Core.List.{List, [], _∷_, _++_}
 use mathlib.Core.Logic.{_⊎_, inl, inr, ⊎-elim}
 use Prim.Native.Nat.{ℕ, zero, suc, _+_, _*_, _<_, _≤_, suc-le-suc}
-use native.Mathlib.Nat.{not-suc-le-zero, le-of-suc-le-suc}
+use native.Mathlib.Nat.{not-suc-le-zero}
 use native.Mathlib.Omega.{arith}
 use lib.Dec.{eqb}
 use lib.ListN.{length, getD, set, drop}
@@ -18,13 +18,11 @@ use Rattle.theory.specs.Lists.{member}
 use Rattle.theory.proofs.Sums.{count-le, count-tight, or-cases}
 use Rattle.places.specs.Families.{Family, Inside, family}
 use Rattle.places.proofs.Families.{family-all, family-past}
-use Rattle.rules.specs.Narrowing.{Narrowed}
-use Rattle.rules.proofs.Narrowing.{narrowed-inside}
 use Rattle.settling.specs.declared.agenda.Agenda.{Agenda}
 use Rattle.settling.specs.declared.agenda.WakeUp.{WakeUp}
 use Rattle.settling.specs.Agenda.{waits, line, joined, Agreed, TakenOne}
 use Rattle.settling.specs.Consistency.{Consistent, AllConsistent, Settled}
-use Rattle.settling.specs.Waking.{IsRule, AllLawful, Rightful, Waiting, Called, Woken, first-wake-ups, Noted, Changed, ChangedBelow, Roused, NarrowedBy, Progress}
+use Rattle.settling.specs.Waking.{IsRule, Rightful, Waiting, Called, Woken, first-wake-ups, Noted, Changed, ChangedBelow, ByJob, ByChange, Roused, NarrowedBy}
 use Rattle.settling.proofs.Agendas.{agreed-len}
 use Rattle.settling.proofs.Counting.{total, total-le, total-same, falls-lists, falls-line}
 use Rattle.settling.proofs.Consistency.{settled, consistent-kept, narrowed-consistent, consistent-elsewhere}
@@ -61,26 +59,35 @@ module _ {R : Type 0} {scope : R → List ℕ} {rules : List R} where
     rightful = subst (All (Rightful scope rules)) (sym holds) (all-joined (Rightful scope rules) (waits a (w .rule)) (line a slots) w (wt .rightful) right);
   }
 
-  pub called-none : (P : ℕ → Type 0) (ws : List WakeUp) → Called scope rules P ws ws
+  pub called-none : (P : WakeUp → Type 0) (ws : List WakeUp) → Called scope rules P ws ws
   called-none P ws = record { added = []; split = sym (append-nil ws); each = tt }
 
-  called-push : {P : ℕ → Type 0} {old mid : List WakeUp} (w : WakeUp) → Called scope rules P old mid → P (w .job) → Rightful scope rules w → Called scope rules P old (mid ++ w ∷ [])
+  called-push : {P : WakeUp → Type 0} {old mid : List WakeUp} (w : WakeUp) → Called scope rules P old mid → P w → Rightful scope rules w → Called scope rules P old (mid ++ w ∷ [])
   called-push {P} {old} w c p right = record {
     added = c .added ++ w ∷ [];
     split = ap (λ ws. ws ++ w ∷ []) (c .split) ∙ append-assoc old (c .added) (w ∷ []);
-    each = all-push (λ v. P (v .job) × Rightful scope rules v) (c .added) w (c .each) (p, right);
+    each = all-push (λ v. P v × Rightful scope rules v) (c .added) w (c .each) (p, right);
   }
 
-  called-joined : {P : ℕ → Type 0} {old mid : List WakeUp} (b : Bool) (w : WakeUp) → Called scope rules P old mid → P (w .job) → Rightful scope rules w → Called scope rules P old (joined b mid w)
+  -- a wake-up joins unless its rule waits
+  called-joined : {P : WakeUp → Type 0} {old mid : List WakeUp} (b : Bool) (w : WakeUp) → Called scope rules P old mid → (b ≡ false → P w) → Rightful scope rules w → Called scope rules P old (joined b mid w)
   called-joined true w c p right = c
-  called-joined false w c p right = called-push w c p right
+  called-joined false w c p right = called-push w c (p refl) right
 
-  pub called-more : {P Q : ℕ → Type 0} {old mid new : List WakeUp} → Called scope rules P old mid → ((j : ℕ) → Q j → P j) → Called scope rules Q mid new → Called scope rules P old new
-  called-more {P} {Q} {old} c into d = record {
+  called-more : {P Q S : WakeUp → Type 0} {old mid new : List WakeUp} → Called scope rules P old mid → ((w : WakeUp) → P w → S w) → Called scope rules Q mid new → ((w : WakeUp) → Rightful scope rules w → Q w → S w) → Called scope rules S old new
+  called-more {P} {Q} {S} {old} c before d after = record {
     added = c .added ++ d .added;
     split = d .split ∙ ap (λ ws. ws ++ d .added) (c .split) ∙ append-assoc old (c .added) (d .added);
-    each = all-append (λ v. P (v .job) × Rightful scope rules v) (c .added) (d .added) (c .each)
-        (all-weaker (λ v. Q (v .job) × Rightful scope rules v) (λ v. P (v .job) × Rightful scope rules v) (λ v h. (into (v .job) (h .0), h .1)) (d .added) (d .each));
+    each = all-append (λ v. S v × Rightful scope rules v) (c .added) (d .added)
+        (all-weaker (λ v. P v × Rightful scope rules v) (λ v. S v × Rightful scope rules v) (λ v h. (before v (h .0), h .1)) (c .added) (c .each))
+        (all-weaker (λ v. Q v × Rightful scope rules v) (λ v. S v × Rightful scope rules v) (λ v h. (after v (h .1) (h .0), h .1)) (d .added) (d .each));
+  }
+
+  called-weaker : {P S : WakeUp → Type 0} {old new : List WakeUp} → Called scope rules P old new → ((w : WakeUp) → P w → S w) → Called scope rules S old new
+  called-weaker {P} {S} c into = record {
+    added = c .added;
+    split = c .split;
+    each = all-weaker (λ v. P v × Rightful scope rules v) (λ v. S v × Rightful scope rules v) (λ v h. (into v (h .0), h .1)) (c .added) (c .each);
   }
 
 -- ---- one job: the rules below i are dealt with, and the others are as they were
@@ -89,11 +96,11 @@ pub record JobDone {R : Type 0} (scope : R → List ℕ) (rules : List R) (j i :
   pub waiting : Waiting scope rules b after
   pub woken : (k : ℕ) (r : R) → k < i → IsRule rules k r → waits b k ≡ (waits a k || member (scope r) j)
   pub past : (k : ℕ) → i ≤ k → waits b k ≡ waits a k
-  pub called : Called scope rules (λ m. m ≡ j) (line a slots) (line b after)
+  pub called : Called scope rules (ByJob a j) (line a slots) (line b after)
 
 module _ {R : Type 0} {scope : R → List ℕ} {rules : List R} {j : ℕ} {a : Agenda} {slots : List WakeUp} where
   pub job-none : Waiting scope rules a slots → JobDone scope rules j 0 a slots a slots
-  job-none wt = record { waiting = wt; woken = λ k r l. absurd (omega arith); past = λ k l. refl; called = called-none (λ m. m ≡ j) (line a slots) }
+  job-none wt = record { waiting = wt; woken = λ k r l. absurd (omega arith); past = λ k l. refl; called = called-none (ByJob a j) (line a slots) }
 
   module _ {i : ℕ} {b : Agenda} {after : List WakeUp} (so-far : JobDone scope rules j i a slots b after) (r : R) (is : IsRule rules i r) where
     pub job-past : member (scope r) j ≡ false → JobDone scope rules j (i + 1) a slots b after
@@ -129,7 +136,7 @@ module _ {R : Type 0} {scope : R → List ℕ} {rules : List R} {j : ℕ} {a : A
               (λ (ne : k ≡ i → ⊥). marks k ∙ cond-false _ true _ (ne-eqb k i ne) ∙ so-far .woken k x (omega arith) ix)
               (cases-eq k i);
           past = λ k l. marks k ∙ cond-false _ true _ (ne-eqb k i (λ e. omega arith)) ∙ so-far .past k (omega arith);
-          called = subst (Called scope rules (λ m. m ≡ j) (line a slots)) (sym holds) (called-joined (waits b i) (record { rule = i; job = j }) (so-far .called) refl right);
+          called = subst (Called scope rules (ByJob a j) (line a slots)) (sym holds) (called-joined (waits b i) (record { rule = i; job = j }) (so-far .called) (λ off. (refl, sym (so-far .past i (omega arith)) ∙ off)) right);
         }
 
 -- ---- at the start: each of the first i rules waits by the first job of its scope
@@ -180,7 +187,7 @@ pub record Renoted (limit : ℕ) (f : Family) (old : List ℕ) (n : ℕ) (noted 
 pub record ChangesDone {R : Type 0} (scope : R → List ℕ) (rules : List R) (limit : ℕ) (f : Family) (old : List ℕ) (n : ℕ) (a : Agenda) (slots : List WakeUp) (b : Agenda) (after : List WakeUp) (noted : List ℕ) : Type 0 where
   pub waiting : Waiting scope rules b after
   pub roused : Roused scope rules (Changed limit f old) n a b
-  pub called : Called scope rules (ChangedBelow n (Changed limit f old)) (line a slots) (line b after)
+  pub called : Called scope rules (ByChange scope rules (Changed limit f old) n a) (line a slots) (line b after)
   pub counts : Renoted limit f old n noted
 
 pub renoted-more : (limit : ℕ) (f : Family) (old : List ℕ) (n : ℕ) (noted : List ℕ) (c : ℕ) → n < length noted → c ≡ count (f n) limit → Renoted limit f old n noted → Renoted limit f old (n + 1) (set noted n c)
@@ -230,22 +237,32 @@ module _ {R : Type 0} {scope : R → List ℕ} {rules : List R} where
   changes-none {limit} {f} {old} {a} {slots} wt = record {
     waiting = wt;
     roused = roused-none (Changed limit f old) a;
-    called = called-none (ChangedBelow 0 (Changed limit f old)) (line a slots);
+    called = called-none (ByChange scope rules (Changed limit f old) 0 a) (line a slots);
     counts = record { now = λ k l. absurd (omega arith); past = λ k l. refl };
   }
 
   module _ {limit : ℕ} {f : Family} {old : List ℕ} {n : ℕ} {a b : Agenda} {slots after : List WakeUp} {noted : List ℕ} (d : ChangesDone scope rules limit f old n a slots b after noted) where
-    wider : (j : ℕ) → ChangedBelow n (Changed limit f old) j → ChangedBelow (n + 1) (Changed limit f old) j
-    wider j h = (omega (arith, h .0), h .1)
+    wider : (w : WakeUp) → ByChange scope rules (Changed limit f old) n a w → ByChange scope rules (Changed limit f old) (n + 1) a w
+    wider w h = record { changed-job = (omega (arith, h .changed-job .0), h .changed-job .1); fresh = h .fresh; lowest = h .lowest }
+
+    -- a rule that did not wait until now has no lower job that has changed
+    by-last : Changed limit f old n → (w : WakeUp) → Rightful scope rules w → ByJob b n w → ByChange scope rules (Changed limit f old) (n + 1) a w
+    by-last new w right h =
+        let quiet-before : (t : Bool) → (t ≡ true → waits b (w .rule) ≡ true) → t ≡ false = λ t up. ⊎-elim (λ (on : t ≡ true). absurd (both-ways _ (h .1) (up on))) (λ (off : t ≡ false). off) (cases-bool t) in
+        record {
+          changed-job = subst (ChangedBelow (n + 1) (Changed limit f old)) (sym (h .0)) (omega arith, new);
+          fresh = quiet-before (waits a (w .rule)) (d .roused .kept (w .rule) (right .named) (right .is));
+          lowest = λ j l ch r is. quiet-before (member (scope r) j) (d .roused .woken (w .rule) r j is (omega (arith, h .0)) ch);
+        }
 
     -- list n has another count than noted, and the rules of its job were woken
-    pub changes-woken : (m : ℕ) (c : Agenda) (last : List WakeUp) → n < length noted → m ≡ count (f n) limit → (m ≡ getD noted n 0 → ⊥) → Waiting scope rules c last → Woken scope rules n b c → Called scope rules (λ j. j ≡ n) (line b after) (line c last) → ChangesDone scope rules limit f old (n + 1) a slots c last (set noted n m)
+    pub changes-woken : (m : ℕ) (c : Agenda) (last : List WakeUp) → n < length noted → m ≡ count (f n) limit → (m ≡ getD noted n 0 → ⊥) → Waiting scope rules c last → Woken scope rules n b c → Called scope rules (ByJob b n) (line b after) (line c last) → ChangesDone scope rules limit f old (n + 1) a slots c last (set noted n m)
     changes-woken m c last l e differs wt w called =
         let new : Changed limit f old n = λ same. differs (e ∙ same ∙ sym (d .counts .past n (omega arith))) in
         record {
           waiting = wt;
           roused = roused-more (d .roused) c new w;
-          called = called-more (called-more (called-none _ (line a slots)) wider (d .called)) (λ j h. subst (ChangedBelow (n + 1) (Changed limit f old)) (sym h) (omega arith, new)) called;
+          called = called-more (d .called) wider called (by-last new);
           counts = renoted-more limit f old n noted m l e (d .counts);
         }
 
@@ -254,9 +271,15 @@ module _ {R : Type 0} {scope : R → List ℕ} {rules : List R} where
     changes-past m l e same = record {
       waiting = d .waiting;
       roused = roused-past (d .roused) (λ new. new (sym e ∙ same ∙ d .counts .past n (omega arith)));
-      called = called-more (called-none _ (line a slots)) wider (d .called);
+      called = called-weaker (d .called) wider;
       counts = renoted-more limit f old n noted m l e (d .counts);
     }
+
+-- settling so far: no consistent family has lost a place, and the lists are consistent for every rule that does not wait
+pub record Progress {R : Type 0} (scope : R → List ℕ) (admits : R → List ℕ → Bool) (rules : List R) (start here : Family) (a : Agenda) : Type 0 where
+  pub inside : Inside here start
+  pub keeps : (g : Family) → AllConsistent scope admits rules g → Inside g start → Inside g here
+  pub quiet : (i : ℕ) (r : R) → IsRule rules i r → waits a i ≡ false → Consistent (scope r) (admits r) here
 
 -- ---- one step: xs are the lists before it, ys after
 

@@ -54,7 +54,7 @@ pub record WholePlacing {R : Type 0} (scope : R → List ℕ) (admits : R → Li
   pub drawn : (j : ℕ) → j < n → f j (at j) ≡ true
   pub admitted : All (λ r. admits r (map at (scope r)) ≡ true) rules
 
--- every whole placing from `before` is one from `after`
+-- every whole placing from `before` takes its places from `after` too
 abbrev pub KeepsPlacings : {R : Type 0} → (R → List ℕ) → (R → List ℕ → Bool) → List R → ℕ → Family → Family → Type 0
 KeepsPlacings scope admits rules n before after =
     (at : ℕ → ℕ) → WholePlacing scope admits rules n before at → (j : ℕ) → j < n → after j (at j) ≡ true

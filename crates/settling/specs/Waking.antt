@@ -3,19 +3,18 @@ use mathlib.Core.Path.{_≡_}
 use mathlib.Core.Bool.{Bool, true, false, _||_}
 use mathlib.Core.List.{List, [], _∷_, _++_}
 use mathlib.Core.Logic.{_⊎_}
-use Prim.Native.Nat.{ℕ, _+_, _<_, _≤_}
+use Prim.Native.Nat.{ℕ, _+_, _<_}
 use lib.ListN.{length, getD}
 use Rattle.std.specs.shelf.Lists.{All}
 use Rattle.std.specs.Options.{Cases}
 use Rattle.std.specs.declared.option.Option.{Option}
 use Rattle.theory.specs.Counts.{count}
 use Rattle.theory.specs.Lists.{member}
-use Rattle.places.specs.Families.{Family, Inside}
+use Rattle.places.specs.Families.{Family}
 use Rattle.rules.specs.Narrowing.{Narrowed}
 use Rattle.settling.specs.declared.agenda.WakeUp.{WakeUp}
 use Rattle.settling.specs.declared.agenda.Agenda.{Agenda}
 use Rattle.settling.specs.Agenda.{waits, line, Agreed}
-use Rattle.settling.specs.Consistency.{Consistent, AllConsistent}
 
 -- r is rule i
 abbrev pub IsRule : {R : Type 0} → List R → ℕ → R → Type 0
@@ -37,11 +36,15 @@ pub record Waiting {R : Type 0} (scope : R → List ℕ) (rules : List R) (a : A
   pub number : a .rules ≡ length rules
   pub rightful : All (Rightful scope rules) (line a slots)
 
--- wake-ups joined the line, each by a job of which P holds
-pub record Called {R : Type 0} (scope : R → List ℕ) (rules : List R) (P : ℕ → Type 0) (old new : List WakeUp) : Type 0 where
+-- rightful wake-ups joined the line at the back, of each of which P holds
+pub record Called {R : Type 0} (scope : R → List ℕ) (rules : List R) (P : WakeUp → Type 0) (old new : List WakeUp) : Type 0 where
   pub added : List WakeUp
   pub split : new ≡ old ++ added
-  pub each : All (λ w. P (w .job) × Rightful scope rules w) added
+  pub each : All (λ w. P w × Rightful scope rules w) added
+
+-- a wake-up of a rule that did not wait, by job j
+abbrev pub ByJob : Agenda → ℕ → WakeUp → Type 0
+ByJob a j w = (w .job ≡ j) × (waits a (w .rule) ≡ false)
 
 -- after one job's list has changed, a rule waits exactly if it did before or its scope has the job
 abbrev pub Woken : {R : Type 0} → (R → List ℕ) → List R → ℕ → Agenda → Agenda → Type 0
@@ -64,6 +67,12 @@ Changed limit f noted j = count (f j) limit ≡ getD noted j 0 → ⊥
 abbrev pub ChangedBelow : ℕ → (ℕ → Type 0) → ℕ → Type 0
 ChangedBelow n changed j = (j < n) × changed j
 
+-- a wake-up of a rule that did not wait, by the lowest of the first n jobs in its scope that have changed
+pub record ByChange {R : Type 0} (scope : R → List ℕ) (rules : List R) (changed : ℕ → Type 0) (n : ℕ) (a : Agenda) (w : WakeUp) : Type 0 where
+  pub changed-job : ChangedBelow n changed (w .job)
+  pub fresh : waits a (w .rule) ≡ false
+  pub lowest : (j : ℕ) → j < w .job → changed j → (r : R) → IsRule rules (w .rule) r → member (scope r) j ≡ false
+
 -- a rule waits after a change exactly if it did before or its scope has one of the first n jobs that have changed;
 -- where none has, all is as it was
 pub record Roused {R : Type 0} (scope : R → List ℕ) (rules : List R) (changed : ℕ → Type 0) (n : ℕ) (a b : Agenda) : Type 0 where
@@ -77,12 +86,6 @@ pub record NarrowedBy {R : Type 0} (scope : R → List ℕ) (admits : R → List
   pub named : R
   pub is : IsRule rules k named
   pub narrowed : Narrowed (scope named) (admits named) before after
-
--- settling so far: no consistent family has lost a place, and the lists are consistent for every rule that does not wait
-pub record Progress {R : Type 0} (scope : R → List ℕ) (admits : R → List ℕ → Bool) (rules : List R) (start here : Family) (a : Agenda) : Type 0 where
-  pub inside : Inside here start
-  pub keeps : (g : Family) → AllConsistent scope admits rules g → Inside g start → Inside g here
-  pub quiet : (i : ℕ) (r : R) → IsRule rules i r → waits a i ≡ false → Consistent (scope r) (admits r) here
 
 -- the first number that is 0, if there is one
 abbrev pub FirstZero : List ℕ → Option ℕ → Type 0

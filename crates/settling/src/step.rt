@@ -1,12 +1,12 @@
 // One step of settling, and all of them.
 ghost use mathlib.Core.Path.{_≡_};
-ghost use mathlib.Core.Bool.{Bool, true, false};
+ghost use mathlib.Core.Bool.{true};
 ghost use Prim.Native.Nat.{ℕ, _+_, _*_, _<_, _≤_};
-ghost use lib.ListN.{length, getD};
+ghost use lib.ListN.{length};
 ghost use Rattle.places.specs.Families.{family};
 ghost use Rattle.settling.specs.Consistency.{Settled};
 ghost use Rattle.settling.specs.Agenda.{waits, line};
-ghost use Rattle.settling.specs.Waking.{AllLawful, Waiting, Called, Noted, Changed, ChangedBelow, Roused, NarrowedBy};
+ghost use Rattle.settling.specs.Waking.{AllLawful, Waiting, Called, Noted, Changed, ByChange, Roused, NarrowedBy};
 use crate::agenda::Agenda;
 use crate::agenda::WakeUp;
 use crate::wake::wake_changed;
@@ -43,7 +43,7 @@ fn step<L: PlaceSet + Copy, R: Rule>(
     ensures waiting { λ _. ⌜ Waiting (R·Rule .scope) (now (rules .entry)) (now (agenda .exit)) (now (slots .exit)) ⌝ }
     ensures narrowed { λ _. ⌜ NarrowedBy (R·Rule .scope) (R·Rule .admits) (now (rules .entry)) k (family (L·PlaceSet .has) (now (lists .entry))) (family (L·PlaceSet .has) (now (lists .exit))) ⌝ }
     ensures roused { λ _. ⌜ Roused (R·Rule .scope) (now (rules .entry)) (Changed (L·PlaceSet .limit) (family (L·PlaceSet .has) (now (lists .exit))) (now (noted .entry))) (length (now (lists .exit))) (now (agenda .entry)) (now (agenda .exit)) ⌝ }
-    ensures called { λ _. ⌜ Called (R·Rule .scope) (now (rules .entry)) (ChangedBelow (length (now (lists .exit))) (Changed (L·PlaceSet .limit) (family (L·PlaceSet .has) (now (lists .exit))) (now (noted .entry)))) (line (now (agenda .entry)) (now (slots .entry))) (line (now (agenda .exit)) (now (slots .exit))) ⌝ }
+    ensures called { λ _. ⌜ Called (R·Rule .scope) (now (rules .entry)) (ByChange (R·Rule .scope) (now (rules .entry)) (Changed (L·PlaceSet .limit) (family (L·PlaceSet .has) (now (lists .exit))) (now (noted .entry))) (length (now (lists .exit))) (now (agenda .entry))) (line (now (agenda .entry)) (now (slots .entry))) (line (now (agenda .exit)) (now (slots .exit))) ⌝ }
     ensures noted { λ _. ⌜ Noted (length (now (lists .exit))) (L·PlaceSet .limit) (family (L·PlaceSet .has) (now (lists .exit))) (now (noted .exit)) ⌝ }
 {
     narrow_by(rules, k, lists, work);

@@ -1,13 +1,13 @@
 // Having rules wait.
 ghost use mathlib.Core.Path.{_≡_};
-ghost use mathlib.Core.Bool.{Bool, true, false};
+ghost use mathlib.Core.Bool.{true, false};
 ghost use mathlib.Core.List.{[]};
 ghost use Prim.Native.Nat.{ℕ, _<_, _≤_};
-ghost use lib.ListN.{length, getD};
+ghost use lib.ListN.{length};
 ghost use Rattle.std.specs.shelf.Lists.{All};
 ghost use Rattle.places.specs.Families.{family};
 ghost use Rattle.settling.specs.Agenda.{waits, line};
-ghost use Rattle.settling.specs.Waking.{Waiting, Woken, Called, Noted, Changed, ChangedBelow, Roused, first-wake-ups};
+ghost use Rattle.settling.specs.Waking.{Waiting, Woken, Called, Noted, Changed, ByJob, ByChange, Roused, first-wake-ups};
 use crate::agenda::Agenda;
 use crate::agenda::WakeUp;
 use crate::counts::note_count;
@@ -34,7 +34,7 @@ fn wake_for_job<R: Rule>(agenda: &mut Agenda, slots: &mut [WakeUp], rules: &[R],
     requires { ⌜ Waiting (R·Rule .scope) (now rules) (now agenda) (now slots) ⌝ }
     ensures waiting { λ _. ⌜ Waiting (R·Rule .scope) (now (rules .entry)) (now (agenda .exit)) (now (slots .exit)) ⌝ }
     ensures woken { λ _. ⌜ Woken (R·Rule .scope) (now (rules .entry)) job (now (agenda .entry)) (now (agenda .exit)) ⌝ }
-    ensures called { λ _. ⌜ Called (R·Rule .scope) (now (rules .entry)) (λ j. j ≡ job) (line (now (agenda .entry)) (now (slots .entry))) (line (now (agenda .exit)) (now (slots .exit))) ⌝ }
+    ensures called { λ _. ⌜ Called (R·Rule .scope) (now (rules .entry)) (ByJob (now (agenda .entry)) job) (line (now (agenda .entry)) (now (slots .entry))) (line (now (agenda .exit)) (now (slots .exit))) ⌝ }
 {
     for (i, rule) in rules.iter().enumerate() {
         if rule.involves(job) {
@@ -56,7 +56,7 @@ pub fn wake_changed<L: PlaceSet, R: Rule>(
     requires noted { ⌜ length (now lists) ≤ length (now noted) ⌝ }
     ensures waiting { λ _. ⌜ Waiting (R·Rule .scope) (now (rules .entry)) (now (agenda .exit)) (now (slots .exit)) ⌝ }
     ensures roused { λ _. ⌜ Roused (R·Rule .scope) (now (rules .entry)) (Changed (L·PlaceSet .limit) (family (L·PlaceSet .has) (now (lists .entry))) (now (noted .entry))) (length (now (lists .entry))) (now (agenda .entry)) (now (agenda .exit)) ⌝ }
-    ensures called { λ _. ⌜ Called (R·Rule .scope) (now (rules .entry)) (ChangedBelow (length (now (lists .entry))) (Changed (L·PlaceSet .limit) (family (L·PlaceSet .has) (now (lists .entry))) (now (noted .entry)))) (line (now (agenda .entry)) (now (slots .entry))) (line (now (agenda .exit)) (now (slots .exit))) ⌝ }
+    ensures called { λ _. ⌜ Called (R·Rule .scope) (now (rules .entry)) (ByChange (R·Rule .scope) (now (rules .entry)) (Changed (L·PlaceSet .limit) (family (L·PlaceSet .has) (now (lists .entry))) (now (noted .entry))) (length (now (lists .entry))) (now (agenda .entry))) (line (now (agenda .entry)) (now (slots .entry))) (line (now (agenda .exit)) (now (slots .exit))) ⌝ }
     ensures noted { λ _. ⌜ Noted (length (now (lists .entry))) (L·PlaceSet .limit) (family (L·PlaceSet .has) (now (lists .entry))) (now (noted .exit)) ⌝ }
 {
     for (j, list) in lists.iter().enumerate() {

@@ -1,8 +1,9 @@
 use Prim.Native.Nat.{_+_, _*_}
 use lib.ListN.{length}
 use Rattle.places.specs.Families.{family}
-use Rattle.settling.specs.Waking.{Waiting, Progress, Noted}
+use Rattle.settling.specs.Waking.{Waiting, Noted}
 use Rattle.settling.proofs.Counting.{total}
+use Rattle.settling.proofs.Waking.{Progress}
 use Rattle.settling.proofs.step.run.Given as given
 
 abbrev pub Inv-loop-wake-up : given.InvT-loop-wake-up

@@ -1,8 +1,7 @@
-use mathlib.Core.Path.{_≡_, sym, subst, _∙_}
+use mathlib.Core.Path.{sym, subst, _∙_}
 use mathlib.Core.List.{List}
 use Prim.Native.Nat.{_+_}
 use native.Mathlib.Omega.{arith}
-use lib.ListN.{length}
 use Rattle.settling.specs.declared.agenda.Agenda.{Agenda}
 use Rattle.settling.specs.declared.agenda.WakeUp.{WakeUp}
 use Rattle.settling.proofs.Waking.{JobDone, job-none, job-past, job-woken}
