@@ -1,6 +1,7 @@
 // A board: its stages, and every call that a client makes on it. All tables are lent to each call; a board holds numbers only.
 mod board;
 mod check;
+mod closed;
 mod fill;
 mod group;
 mod lengths;
