@@ -1,32 +1,32 @@
 -- A segment becomes a component, in tables.
-use Prim.Native.Nat.{ℕ, zero, suc, _+_, _-_, _*_, _<_, _≤_}
+use Prim.Native.Nat.{ℕ, suc, _+_, _-_, _<_, _≤_}
 use mathlib.Core.Path.{_≡_, refl, sym, ap, _∙_, fun-ext, subst, subst₂}
-use mathlib.Core.Bool.{Bool, true, false, _&&_, _||_}
+use mathlib.Core.Bool.{Bool, true, false, _&&_}
 use mathlib.Core.List.{List}
 use mathlib.Core.Logic.{_≢_, _⊎_, inl, inr}
 use native.Mathlib.Decide.{ℕ-discrete, decLt}
 use native.Mathlib.Omega.{arith}
 use lib.Dec.{eqb}
 use lib.ListN.{length}
-use borrow.Author.Tests.{eqb-true, eq-eqb, ne-eqb}
+use borrow.Author.Tests.{eqb-true, eq-eqb}
 use Rattle.std.specs.Orderings.{Decides}
 use Rattle.theory.specs.Counts.{bit, count}
 use Rattle.theory.specs.Reach.{Reach, Along}
 use Rattle.theory.specs.Trail.{Trail, Spent, LooseBy, Loosened}
 use Rattle.theory.specs.TrailTheorems.{Passed}
-use Rattle.theory.proofs.Sums.{cases, clash, and-left, and-right, both, or-left, or-right, or-cases}
+use Rattle.theory.proofs.Sums.{clash, and-left, and-right, both, or-left, or-right, or-cases}
 use Rattle.theory.proofs.Trails.{trail-closes, together, loosened-more}
 use Rattle.matching.specs.Tables.{at, filled}
-use Rattle.matching.proofs.Tables.{filled-some, filled-none, some-filled}
+use Rattle.matching.proofs.Tables.{filled-some, some-filled}
 use Rattle.components.specs.declared.stack.Heights.{Heights}
-use Rattle.components.specs.Walks.{Setting, Settled, Tables, tables, Fit, edge, passed, cut, Free, loose, TrailOf, Walked}
-use Rattle.components.specs.Steps.{Labelled, outlet, HasOutlet, SomeOutlet, Closed}
+use Rattle.components.specs.Walks.{Setting, FullMatching, Tables, tables, edge, passed, cut, Free, loose, TrailOf, Walked}
+use Rattle.components.specs.Steps.{Labelled, HasOutlet, SomeOutlet, Closed}
 use Rattle.components.proofs.Cuts.{cut-has, popped-low, popped-high}
 use Rattle.components.proofs.Walks.{heights, last, last-on, cuts-some, tops}
 
 -- ---- outlets
 
-module _ (g : Setting) (f : Settled g) (index labels : List ℕ) where
+module _ (g : Setting) (f : FullMatching g) (index labels : List ℕ) where
   abbrev Loose : ℕ → Type 0
   Loose = LooseBy (Along (g .jobs) (edge g)) (Free g) (g .jobs) (filled labels) (loose index)
 
@@ -62,7 +62,7 @@ bit-small : (flag : Bool) → bit flag ≢ 65535
 bit-small true e = omega arith
 bit-small false e = omega arith
 
-module _ (g : Setting) (f : Settled g) (t : Tables) (s : Heights) (k : Walked g t s) (p : 0 < s .depth) where
+module _ (g : Setting) (f : FullMatching g) (t : Tables) (s : Heights) (k : Walked g t s) (p : 0 < s .depth) where
   abbrev m : ℕ
   m = g .jobs
 

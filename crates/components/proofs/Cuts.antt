@@ -1,7 +1,7 @@
 -- The cuts of a search in a table.
-use Prim.Native.Nat.{ℕ, zero, suc, _+_, _-_, _<_, _≤_}
+use Prim.Native.Nat.{ℕ, suc, _-_, _<_, _≤_}
 use mathlib.Core.Path.{_≡_, refl, sym, ap, _∙_, fun-ext, subst}
-use mathlib.Core.Bool.{Bool, true, false, _||_}
+use mathlib.Core.Bool.{Bool, true, false}
 use mathlib.Core.List.{List}
 use mathlib.Core.Logic.{_≢_, inl, inr}
 use native.Mathlib.Decide.{ℕ-discrete, decLt}
@@ -10,9 +10,8 @@ use lib.Dec.{eqb}
 use lib.ListN.{length, set}
 use lib.Seq.{getD-set-same, getD-set-other}
 use borrow.Author.Tests.{eqb-true, eq-eqb}
-use Rattle.theory.specs.Counts.{some}
 use Rattle.theory.specs.Assignments.{with}
-use Rattle.theory.proofs.Sums.{cases, clash, some-has, some-at}
+use Rattle.theory.proofs.Sums.{cases, some-has, some-at}
 use Rattle.theory.proofs.Moves.{with-same, with-has, with-is}
 use Rattle.matching.specs.Tables.{at}
 use Rattle.components.specs.Walks.{cut}

@@ -1,16 +1,14 @@
 -- The start and the end of the search.
-use Prim.Native.Nat.{ℕ, suc, _+_, _<_, _≤_}
-use mathlib.Core.Path.{_≡_, refl, sym, ap, _∙_, subst}
+use Prim.Native.Nat.{ℕ, _<_, _≤_}
+use mathlib.Core.Path.{_≡_, refl, ap, _∙_}
 use mathlib.Core.Bool.{Bool, true, false, _&&_}
 use mathlib.Core.List.{List}
-use mathlib.Core.Logic.{_≢_, inl, inr}
 use native.Mathlib.Decide.{ℕ-discrete}
 use native.Mathlib.Omega.{arith}
 use lib.Dec.{eqb, ltb}
-use lib.ListN.{length}
 use borrow.Author.Tests.{ltb-true}
 use Rattle.theory.specs.Counts.{count}
-use Rattle.theory.specs.Reach.{Reach, Along}
+use Rattle.theory.specs.Reach.{Along}
 use Rattle.theory.specs.Assignments.{Searched, Leads, Open, Spare, all, with}
 use Rattle.theory.specs.SingleRows.{single}
 use Rattle.theory.specs.TrailTheorems.{Passed}
@@ -22,7 +20,7 @@ use Rattle.matching.specs.Tables.{at, filled}
 use Rattle.matching.proofs.Tables.{none-filled, filled-set}
 use Rattle.matching.proofs.Shifts.{free-spare, held-tight}
 use Rattle.components.specs.declared.stack.Heights.{Heights}
-use Rattle.components.specs.Walks.{Setting, Settled, Tables, tables, Fit, edge, passed, cut, Free, loose, Walked, empty-at}
+use Rattle.components.specs.Walks.{Setting, FullMatching, Tables, tables, Fit, edge, passed, cut, Free, loose, Walked, empty-at}
 use Rattle.components.specs.Steps.{Pushed}
 use Rattle.components.proofs.Cuts.{cut-is}
 use Rattle.components.proofs.Walks.{walked-pushes}
@@ -86,7 +84,7 @@ module _ (g : Setting) (t : Tables) (next root : ℕ) (k : Walked g t (empty-at 
   root-keeps a h = ap (λ (A : ℕ → Bool). A a) seen-now ∙ with-has (filled (t .index)) root a h
 
 -- all were seen
-module _ (g : Setting) (f : Settled g) where
+module _ (g : Setting) (f : FullMatching g) where
   -- a place is free exactly if it is spare
   spare-all : (p : ℕ) → count (λ k. filled (g .places) k && eqb (at (g .places) k) p) (g .jobs) ≡ count (λ k. true && eqb (at (g .places) k) p) (g .jobs)
   spare-all p = count-same _ _ (g .jobs) (λ k l. ap (λ (b : Bool). b && eqb (at (g .places) k) p) (f .every k l))

@@ -1,27 +1,25 @@
 -- One place of a list is followed, in tables.
-use Prim.Native.Nat.{ℕ, zero, suc, _+_, _-_, _*_, _<_, _≤_}
-use mathlib.Core.Path.{_≡_, refl, sym, ap, _∙_, fun-ext, subst, subst₂}
-use mathlib.Core.Bool.{Bool, true, false, _&&_, _||_}
+use Prim.Native.Nat.{ℕ, _+_, _-_, _*_, _<_, _≤_}
+use mathlib.Core.Path.{_≡_, sym, ap, _∙_, fun-ext, subst, subst₂}
+use mathlib.Core.Bool.{Bool, true, false}
 use mathlib.Core.List.{List}
 use mathlib.Core.Logic.{_≢_, _⊎_, inl, inr}
 use native.Mathlib.Decide.{ℕ-discrete, decLt}
 use native.Mathlib.Omega.{arith}
-use lib.Dec.{eqb, ltb}
+use lib.Dec.{ltb}
 use lib.ListN.{length, set, length-set}
 use lib.Seq.{getD-set-same, getD-set-other}
 use borrow.Author.Tests.{lt-ltb, ltb-true}
-use Rattle.theory.specs.Counts.{sum, count}
 use Rattle.theory.specs.Reach.{Along}
-use Rattle.theory.specs.Assignments.{with}
-use Rattle.theory.specs.Trail.{Trail, Spent, Ends}
+use Rattle.theory.specs.Trail.{Trail, Spent}
 use Rattle.theory.specs.TrailTheorems.{Passed}
 use Rattle.theory.proofs.Sums.{cases, clash, and-left, and-right, both, sum-put}
 use Rattle.theory.proofs.Moves.{with-has}
 use Rattle.matching.specs.Tables.{at, filled}
 use Rattle.matching.proofs.Tables.{filled-set}
 use Rattle.components.specs.declared.stack.Heights.{Heights}
-use Rattle.components.specs.Walks.{Setting, Settled, Tables, tables, Fit, edge, passed, cut, Free, loose, TrailOf, Walked, effort}
-use Rattle.components.specs.Steps.{pushed, Pushed, Collapsed, Followed}
+use Rattle.components.specs.Walks.{Setting, FullMatching, Tables, tables, Fit, edge, passed, cut, Walked, effort}
+use Rattle.components.specs.Steps.{pushed, Collapsed, Followed}
 use Rattle.components.proofs.Cuts.{collapsed-high}
 use Rattle.components.proofs.Walks.{heights, last, last-on, last-job, room, walked-joins, walked-follows, walked-pushes}
 
@@ -41,7 +39,7 @@ spent-from g cursors a none b (la, lb, h) = both (lt-ltb b (g .jobs) lb) (both h
   | no nl ↦ absurd (clash h (none (at (g .places) b) (omega arith)))
 ])))
 
-module _ (g : Setting) (f : Settled g) (cursors : List ℕ) (fit : g .jobs ≤ length cursors) (a p : ℕ) (la : a < g .jobs) (low : at cursors a ≤ p)
+module _ (g : Setting) (f : FullMatching g) (cursors : List ℕ) (fit : g .jobs ≤ length cursors) (a p : ℕ) (la : a < g .jobs) (low : at cursors a ≤ p)
     (none : (q : ℕ) → at cursors a ≤ q → q < p → g .holds a q ≡ false) where
   abbrev cursors′ : List ℕ
   cursors′ = set cursors a (p + 1)
@@ -96,7 +94,7 @@ module _ (g : Setting) (f : Settled g) (cursors : List ℕ) (fit : g .jobs ≤ l
       omega (arith, here, f .narrow, sum-put (λ k. 2 * (2049 - at cursors′ k)) (λ k. 2 * (2049 - at cursors k)) (g .jobs) a la (λ k l ne. ap (λ (z : ℕ). 2 * (2049 - z)) (getD-set-other cursors a k (p + 1) 0 ne)))
 
 -- the last of the path goes on to the next place of its list
-module _ (g : Setting) (f : Settled g) (t : Tables) (s : Heights) (k : Walked g t s) (d : 0 < s .depth) (p : ℕ) (low : at (t .cursors) (at (t .nodes) (last g t s k)) ≤ p)
+module _ (g : Setting) (f : FullMatching g) (t : Tables) (s : Heights) (k : Walked g t s) (d : 0 < s .depth) (p : ℕ) (low : at (t .cursors) (at (t .nodes) (last g t s k)) ≤ p)
     (none : (q : ℕ) → at (t .cursors) (at (t .nodes) (last g t s k)) ≤ q → q < p → g .holds (at (t .nodes) (last g t s k)) q ≡ false) where
   abbrev a : ℕ
   a = at (t .nodes) (last g t s k)

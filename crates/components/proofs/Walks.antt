@@ -1,31 +1,29 @@
 -- The steps of a path-based search for components, in tables.
 use Prim.Native.Nat.{ℕ, zero, suc, _+_, _-_, _<_, _≤_}
-use mathlib.Core.Path.{_≡_, refl, sym, ap, _∙_, fun-ext, subst, subst₂}
+use mathlib.Core.Path.{_≡_, refl, sym, ap, _∙_, subst, subst₂}
 use mathlib.Core.Bool.{Bool, true, false}
 use mathlib.Core.List.{List}
-use mathlib.Core.Logic.{_≢_, _⊎_, inl, inr}
+use mathlib.Core.Logic.{_≢_, _⊎_}
 use native.Mathlib.Decide.{ℕ-discrete, decLt}
 use native.Mathlib.Omega.{arith}
 use native.Mathlib.Numerals.{add-one}
 use lib.Dec.{eqb}
 use lib.ListN.{length, set, length-set}
 use lib.Seq.{getD-set-same, getD-set-other}
-use borrow.Author.Tests.{eqb-true, eq-eqb}
-use Rattle.std.specs.Orderings.{Decides}
-use Rattle.theory.specs.Counts.{bit, count}
+use Rattle.theory.specs.Counts.{count}
 use Rattle.theory.specs.Reach.{Along}
 use Rattle.theory.specs.Assignments.{put, with}
-use Rattle.theory.specs.Trail.{Trail, Spent, Ends, LooseBy, Loosened}
+use Rattle.theory.specs.Trail.{Trail, Spent, Ends}
 use Rattle.theory.specs.TrailTheorems.{Passed}
-use Rattle.theory.proofs.Sums.{cases, clash, and-left, and-right, both, or-left, or-right, or-cases, count-lt, count-most, count-all}
+use Rattle.theory.proofs.Sums.{clash, count-lt, count-most, count-all}
 use Rattle.theory.proofs.Moves.{count-with}
-use Rattle.theory.proofs.Trails.{trail-pushes, trail-follows, trail-joins, trail-pops, trail-closes, together, loosened-more, none-on}
+use Rattle.theory.proofs.Trails.{trail-pushes, trail-follows, trail-joins, trail-pops, none-on}
 use Rattle.matching.specs.Tables.{at, filled}
-use Rattle.matching.proofs.Tables.{at-set, filled-set, filled-some, filled-none, some-filled, none-filled}
+use Rattle.matching.proofs.Tables.{at-set, filled-set}
 use Rattle.components.specs.declared.stack.Heights.{Heights}
-use Rattle.components.specs.Walks.{Setting, Settled, Tables, tables, Fit, edge, passed, cut, Free, loose, TrailOf, Walked, Readable}
-use Rattle.components.specs.Steps.{pushed, Pushed, Collapsed, Labelled, outlet, HasOutlet, SomeOutlet, Closed}
-use Rattle.components.proofs.Cuts.{cut-has, cut-is, cut-push, collapsed-low, collapsed-high, popped-low, popped-high, last-not}
+use Rattle.components.specs.Walks.{Setting, Tables, tables, edge, passed, cut, loose, Walked, Readable}
+use Rattle.components.specs.Steps.{pushed, Collapsed}
+use Rattle.components.proofs.Cuts.{cut-has, cut-is, cut-push, collapsed-low, collapsed-high, last-not}
 
 -- rising numbers are at least their positions
 pub rising-ge : (f : ℕ → ℕ) (n : ℕ) → ((i j : ℕ) → i < j → j < n → f i < f j) → (i : ℕ) → i < n → i ≤ f i

@@ -25,7 +25,7 @@ abbrev pub setting : ℕ → ℕ → (ℕ → ℕ → Bool) → List ℕ → Lis
 setting m w holds places holders = record { jobs = m; width = w; holds = holds; places = places; holders = holders }
 
 -- every job has a place
-pub record Settled (g : Setting) : Type 0 where
+pub record FullMatching (g : Setting) : Type 0 where
   pub few : g .jobs ≤ 65535
   pub narrow : g .width ≤ 2048
   pub matched : Matched (g .jobs) (g .width) (g .holds) (g .places) (g .holders)

@@ -1,12 +1,11 @@
 // The end of a component.
 ghost use mathlib.Core.Path.{_≡_};
-ghost use mathlib.Core.Bool.{Bool, true};
+ghost use mathlib.Core.Bool.{true};
 ghost use Prim.Native.Nat.{ℕ, _+_, _<_, _≤_};
 ghost use lib.ListN.{length};
 ghost use Rattle.std.specs.Orderings.{Decides};
 ghost use Rattle.matching.specs.Tables.{at};
-ghost use Rattle.matching.specs.Matched.{Matched};
-ghost use Rattle.components.specs.Walks.{setting, Settled};
+ghost use Rattle.components.specs.Walks.{setting, FullMatching};
 ghost use Rattle.components.specs.Steps.{Closed, HasOutlet, Labelled, SomeOutlet, outlet};
 use crate::stack::Heights;
 use matching::Bipartite;
@@ -45,7 +44,7 @@ fn has_outlet<J: Bipartite>(
     labels: &[u16],
     job: usize,
 ) -> bool
-    requires full { ⌜ Settled (setting (J·Bipartite .jobs (now jobs)) (J·Bipartite .width (now jobs)) (J·Bipartite .holds (now jobs)) (now (now full .places)) (now (now full .holders))) ⌝ }
+    requires full { ⌜ FullMatching (setting (J·Bipartite .jobs (now jobs)) (J·Bipartite .width (now jobs)) (J·Bipartite .holds (now jobs)) (now (now full .places)) (now (now full .holders))) ⌝ }
     requires job { ⌜ job < J·Bipartite .jobs (now jobs) ⌝ }
     requires tables { ⌜ (J·Bipartite .jobs (now jobs) ≤ length (now index)) × (J·Bipartite .jobs (now jobs) ≤ length (now labels)) ⌝ }
     ensures { λ r. ⌜ Decides r (HasOutlet (setting (J·Bipartite .jobs (now (jobs .entry))) (J·Bipartite .width (now (jobs .entry))) (J·Bipartite .holds (now (jobs .entry))) (now (now (full .entry) .places)) (now (now (full .entry) .holders))) (now (index .entry)) (now (labels .entry)) job) ⌝ }
@@ -70,7 +69,7 @@ fn some_outlet<J: Bipartite>(
     from: usize,
     top: usize,
 ) -> bool
-    requires full { ⌜ Settled (setting (J·Bipartite .jobs (now jobs)) (J·Bipartite .width (now jobs)) (J·Bipartite .holds (now jobs)) (now (now full .places)) (now (now full .holders))) ⌝ }
+    requires full { ⌜ FullMatching (setting (J·Bipartite .jobs (now jobs)) (J·Bipartite .width (now jobs)) (J·Bipartite .holds (now jobs)) (now (now full .places)) (now (now full .holders))) ⌝ }
     requires order { ⌜ from ≤ top ⌝ }
     requires fits { ⌜ top ≤ length (now nodes) ⌝ }
     requires jobs { ⌜ ((x : ℕ) → x < top → at (now nodes) x < J·Bipartite .jobs (now jobs)) ⌝ }
@@ -95,7 +94,7 @@ pub fn close<J: Bipartite>(
     s: Heights,
     from: usize,
 ) -> Heights
-    requires full { ⌜ Settled (setting (J·Bipartite .jobs (now jobs)) (J·Bipartite .width (now jobs)) (J·Bipartite .holds (now jobs)) (now (now full .places)) (now (now full .holders))) ⌝ }
+    requires full { ⌜ FullMatching (setting (J·Bipartite .jobs (now jobs)) (J·Bipartite .width (now jobs)) (J·Bipartite .holds (now jobs)) (now (now full .places)) (now (now full .holders))) ⌝ }
     requires order { ⌜ from ≤ s .top ⌝ }
     requires heights { ⌜ (0 < s .cuts) × (0 < s .depth) × (s .next < 65535) ⌝ }
     requires fits { ⌜ s .top ≤ length (now nodes) ⌝ }

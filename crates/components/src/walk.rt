@@ -1,12 +1,12 @@
 // A path-based search that follows each list once.
-ghost use mathlib.Core.Bool.{Bool, true, false};
+ghost use mathlib.Core.Bool.{true, false};
 ghost use mathlib.Core.Path.{_≡_};
 ghost use Prim.Native.Nat.{ℕ, _<_};
 ghost use lib.ListN.{length};
 ghost use Rattle.theory.specs.Assignments.{Searched};
 ghost use Rattle.theory.specs.SingleRows.{single};
 ghost use Rattle.matching.specs.Tables.{at, filled};
-ghost use Rattle.components.specs.Walks.{setting, Settled, tables, Fit, Readable, Walked, effort, empty-at, loose};
+ghost use Rattle.components.specs.Walks.{setting, FullMatching, tables, Fit, Readable, Walked, effort, empty-at, loose};
 use crate::close::close;
 use crate::stack::Heights;
 use crate::stack::follow;
@@ -27,7 +27,7 @@ fn advance<J: Bipartite>(
     path: &mut [u16],
     s: Heights,
 ) -> Heights
-    requires full { ⌜ Settled (setting (J·Bipartite .jobs (now jobs)) (J·Bipartite .width (now jobs)) (J·Bipartite .holds (now jobs)) (now (now full .places)) (now (now full .holders))) ⌝ }
+    requires full { ⌜ FullMatching (setting (J·Bipartite .jobs (now jobs)) (J·Bipartite .width (now jobs)) (J·Bipartite .holds (now jobs)) (now (now full .places)) (now (now full .holders))) ⌝ }
     requires depth { ⌜ 0 < s .depth ⌝ }
     requires state { ⌜ Walked (setting (J·Bipartite .jobs (now jobs)) (J·Bipartite .width (now jobs)) (J·Bipartite .holds (now jobs)) (now (now full .places)) (now (now full .holders))) (tables (now cursors) (now index) (now labels) (now nodes) (now cuts) (now path)) s ⌝ }
     requires readable { ⌜ Readable (tables (now cursors) (now index) (now labels) (now nodes) (now cuts) (now path)) s ⌝ }
@@ -68,7 +68,7 @@ fn explore<J: Bipartite>(
     root: u16,
     next: u16,
 ) -> u16
-    requires full { ⌜ Settled (setting (J·Bipartite .jobs (now jobs)) (J·Bipartite .width (now jobs)) (J·Bipartite .holds (now jobs)) (now (now full .places)) (now (now full .holders))) ⌝ }
+    requires full { ⌜ FullMatching (setting (J·Bipartite .jobs (now jobs)) (J·Bipartite .width (now jobs)) (J·Bipartite .holds (now jobs)) (now (now full .places)) (now (now full .holders))) ⌝ }
     requires root { ⌜ (root < J·Bipartite .jobs (now jobs)) × (filled (now index) root ≡ false) ⌝ }
     requires state { ⌜ Walked (setting (J·Bipartite .jobs (now jobs)) (J·Bipartite .width (now jobs)) (J·Bipartite .holds (now jobs)) (now (now full .places)) (now (now full .holders))) (tables (now cursors) (now index) (now labels) (now nodes) (now cuts) (now path)) (empty-at next) ⌝ }
     ensures state { λ r. ⌜ Walked (setting (J·Bipartite .jobs (now (jobs .entry))) (J·Bipartite .width (now (jobs .entry))) (J·Bipartite .holds (now (jobs .entry))) (now (now (full .entry) .places)) (now (now (full .entry) .holders))) (tables (now (cursors .exit)) (now (index .exit)) (now (labels .exit)) (now (nodes .exit)) (now (cuts .exit)) (now (path .exit))) (empty-at r) ⌝ }
@@ -99,7 +99,7 @@ pub fn components<J: Bipartite>(
     cuts: &mut [u16],
     path: &mut [u16],
 )
-    requires full { ⌜ Settled (setting (J·Bipartite .jobs (now jobs)) (J·Bipartite .width (now jobs)) (J·Bipartite .holds (now jobs)) (now (now full .places)) (now (now full .holders))) ⌝ }
+    requires full { ⌜ FullMatching (setting (J·Bipartite .jobs (now jobs)) (J·Bipartite .width (now jobs)) (J·Bipartite .holds (now jobs)) (now (now full .places)) (now (now full .holders))) ⌝ }
     requires places { ⌜ length (now (now full .places)) ≡ J·Bipartite .jobs (now jobs) ⌝ }
     requires tables { ⌜ Fit (J·Bipartite .jobs (now jobs)) (tables (now cursors) (now index) (now labels) (now nodes) (now cuts) (now path)) ⌝ }
     ensures { λ _. ⌜ Searched (single (J·Bipartite .jobs (now (jobs .entry))) (J·Bipartite .width (now (jobs .entry))) (J·Bipartite .holds (now (jobs .entry)))) (at (now (now (full .entry) .places))) (loose (now (index .exit))) (at (now (labels .exit))) ⌝ }

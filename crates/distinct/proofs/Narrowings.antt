@@ -1,8 +1,8 @@
 -- The sifted lists are narrowed.
-use mathlib.Core.Path.{_≡_, refl, sym, ap, _∙_, subst}
+use mathlib.Core.Path.{_≡_, refl, sym, _∙_, subst}
 use mathlib.Core.Bool.{Bool, true, false, _&&_}
 use mathlib.Core.List.{List}
-use Prim.Native.Nat.{ℕ, _<_, _≤_}
+use Prim.Native.Nat.{ℕ, _<_}
 use native.Mathlib.Omega.{arith}
 use lib.ListN.{length, getD}
 use Rattle.theory.specs.Assignments.{Problem, Full, Searched, keeps}
@@ -18,7 +18,7 @@ use Rattle.matching.specs.Matched.{Stalled}
 use Rattle.places.specs.Families.{Family}
 use Rattle.rules.specs.Narrowing.{Support, Narrowed}
 use Rattle.rules.specs.Progressions.{no-place-twice}
-use Rattle.components.specs.Walks.{setting, Settled, loose}
+use Rattle.components.specs.Walks.{setting, FullMatching, loose}
 use Rattle.distinct.specs.Scopes.{scoped, Sifted, stays}
 use Rattle.distinct.proofs.Divisions.{all-full, stays-keeps, keeps-stays}
 
@@ -55,7 +55,7 @@ module _ (scope : List ℕ) (m w : ℕ) (lm : length scope ≡ m) (before after 
   }
 
   -- by a full matching and what was found of it
-  pub narrowed-full : (places holders labels marks : List ℕ) → Settled (setting m w (scoped scope before) places holders)
+  pub narrowed-full : (places holders labels marks : List ℕ) → FullMatching (setting m w (scoped scope before) places holders)
       → Searched (single m w (scoped scope before)) (at places) (loose marks) (at labels) → Sifted scope m (stays places holders labels marks) before after → Narrowed scope no-place-twice before after
   narrowed-full places holders labels marks f found sifted =
       let full : Full P (at places) = all-full m w (scoped scope before) places holders (f .few) (f .matched) (f .every) in

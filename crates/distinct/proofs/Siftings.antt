@@ -1,10 +1,10 @@
 -- One more list is sifted.
 use mathlib.Core.Path.{_≡_, refl, sym, ap, _∙_, subst}
-use mathlib.Core.Bool.{Bool, true, false, _&&_, _||_, cond}
-use mathlib.Core.List.{List, [], _∷_, _++_}
-use mathlib.Core.Logic.{_≢_, _⊎_, inl, inr}
-use Prim.Native.Nat.{ℕ, zero, suc, _+_, _-_, _*_, _/_, _%_, _<_, _≤_}
-use native.Mathlib.Decide.{ℕ-discrete, decLt}
+use mathlib.Core.Bool.{Bool, true, false, _&&_}
+use mathlib.Core.List.{List}
+use mathlib.Core.Logic.{_≢_}
+use Prim.Native.Nat.{ℕ, _+_, _-_, _<_, _≤_}
+use native.Mathlib.Decide.{ℕ-discrete}
 use native.Mathlib.Omega.{arith}
 use lib.Dec.{eqb}
 use lib.ListN.{length, getD, set}
@@ -12,9 +12,6 @@ use borrow.Author.Tests.{ne-eqb}
 use Rattle.places.specs.Families.{Family, family}
 use Rattle.places.proofs.Families.{family-at, family-set-same, family-set-other}
 use Rattle.distinct.specs.Scopes.{Sifted}
-
-pub sifted-none : (scope : List ℕ) (ok : ℕ → ℕ → Bool) (before : Family) → Sifted scope 0 ok before before
-sifted-none scope ok before = record { done = λ k q l. absurd (omega arith); others = λ j q h. refl }
 
 pub sifted-more : {L : Type 0} (has : L → ℕ → Bool) (scope : List ℕ) (i : ℕ) (ok : ℕ → ℕ → Bool) (before : Family) (xs : List L) (j : ℕ) (y d : L) → ((k : ℕ) → k < i → getD scope k 0 ≢ getD scope i 0)
     → j ≡ getD scope i 0 → j < length xs → Sifted scope i ok before (family has xs) → ((q : ℕ) → has y q ≡ (has (getD xs j d) q && ok i q)) → Sifted scope (i + 1) ok before (family has (set xs j y))

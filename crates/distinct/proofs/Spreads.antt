@@ -1,20 +1,20 @@
 -- Scopes in equal steps.
-use mathlib.Core.Path.{_≡_, refl, sym, ap, _∙_, subst}
-use mathlib.Core.Bool.{Bool, true, false, _&&_, _||_, cond}
-use mathlib.Core.List.{List, [], _∷_, _++_}
+use mathlib.Core.Path.{_≡_, refl, sym, ap, _∙_}
+use mathlib.Core.Bool.{Bool, true, false, _&&_}
+use mathlib.Core.List.{List}
 use mathlib.Core.Logic.{_≢_, _⊎_, inl, inr}
 use Prim.Native.Nat.{ℕ, zero, suc, _+_, _-_, _*_, _/_, _%_, _<_, _≤_}
-use native.Mathlib.Decide.{ℕ-discrete, decLt}
+use native.Mathlib.Decide.{decLt}
 use native.Mathlib.Omega.{arith}
-use native.Mathlib.Nat.{mul-le-mul-right, mul-le-mul-left, zero-mul, suc-mul, mul-zero, mul-mod-left, mul-div-cancel, div-add-mod'}
-use borrow.Author.Tests.{leb-true, ltb-true, lt-ltb, eqb-true, eq-eqb, ne-eqb}
+use native.Mathlib.Nat.{mul-le-mul-right, zero-mul, suc-mul, mul-zero, mul-mod-left, mul-div-cancel, div-add-mod'}
+use borrow.Author.Tests.{leb-true, ltb-true, lt-ltb, eqb-true, eq-eqb}
 use lib.Dec.{leb, ltb, eqb}
 use lib.ListN.{length, getD}
-use Rattle.theory.specs.Counts.{bit, gate, sum, count}
+use Rattle.theory.specs.Counts.{count}
 use Rattle.theory.specs.Lists.{member}
-use Rattle.theory.specs.Assignments.{all, room}
-use Rattle.theory.specs.SingleRows.{single, Row}
-use Rattle.theory.proofs.Sums.{cases, clash, and-left, and-right, both, or-left, or-right, or-cases, count-all}
+use Rattle.theory.specs.Assignments.{all}
+use Rattle.theory.specs.SingleRows.{single}
+use Rattle.theory.proofs.Sums.{clash, and-left, and-right, both, or-left, or-right, or-cases, count-all}
 use Rattle.theory.proofs.Bounds.{at-most-room}
 use Rattle.theory.proofs.SingleRows.{row-full}
 use Rattle.rules.specs.declared.progression.Progression.{Progression}

@@ -1,13 +1,13 @@
 -- The group that a largest matching tells.
-use mathlib.Core.Path.{_≡_, refl, sym, ap, _∙_, subst, subst₂}
-use mathlib.Core.Bool.{Bool, true, false, not}
+use mathlib.Core.Path.{_≡_, sym, ap, _∙_, subst, subst₂}
+use mathlib.Core.Bool.{not}
 use mathlib.Core.List.{List}
-use Prim.Native.Nat.{ℕ, _+_, _<_, _≤_}
+use Prim.Native.Nat.{ℕ, _≤_}
 use native.Mathlib.Omega.{arith}
 use lib.ListN.{length, getD, take, drop}
 use lib.Seq.{take-length}
 use Rattle.theory.specs.Counts.{count}
-use Rattle.theory.specs.Assignments.{Group, missing}
+use Rattle.theory.specs.Assignments.{Group}
 use Rattle.theory.specs.Lists.{member}
 use Rattle.theory.specs.SingleRows.{single}
 use Rattle.theory.proofs.Groups.{stuck-group, group-same}

@@ -1,7 +1,7 @@
 // The group of a progression's jobs.
-ghost use mathlib.Core.Bool.{true, false, not};
+ghost use mathlib.Core.Bool.{not};
 ghost use mathlib.Core.Path.{_≡_};
-ghost use Prim.Native.Nat.{ℕ, _+_, _*_, _<_, _≤_};
+ghost use Prim.Native.Nat.{ℕ, _+_, _*_, _^_, _<_, _≤_};
 ghost use lib.Dec.{eqb};
 ghost use lib.ListN.{length, set, take, drop};
 ghost use Rattle.theory.specs.Counts.{bit, count};
@@ -28,7 +28,7 @@ pub struct Deficiency {
 
 // One more than `n` for a slot without a number.
 fn tally(n: usize, slot: u16) -> usize
-    requires { ⌜ n < 65536 ⌝ }
+    requires { ⌜ n + 1 < 2 ^ 64 ⌝ }
     ensures { λ r. ⌜ r ≡ n + bit (eqb slot 65535) ⌝ }
 {
     if slot == NONE { n + 1 } else { n }
@@ -36,7 +36,6 @@ fn tally(n: usize, slot: u16) -> usize
 
 // How many slots have no number.
 pub fn count_none(slots: &[u16]) -> usize
-    requires { ⌜ length (now slots) ≤ 256 ⌝ }
     ensures { λ r. ⌜ r ≡ count (λ k. not (filled (now (slots .entry)) k)) (length (now (slots .entry))) ⌝ }
 {
     let mut n = 0;
@@ -48,7 +47,7 @@ pub fn count_none(slots: &[u16]) -> usize
 
 // Writes a job to the table, and gives the number of jobs in it.
 fn append(table: &mut [u16], len: usize, job: u16) -> usize
-    requires { ⌜ (len < length (now table)) × (len < 256) ⌝ }
+    requires { ⌜ len < length (now table) ⌝ }
     ensures table { λ _. ⌜ now (table .exit) ≡ set (now (table .entry)) len job ⌝ }
     ensures len { λ r. ⌜ r ≡ len + 1 ⌝ }
 {

@@ -1,12 +1,11 @@
 // Narrowing the lists of a progression's jobs, which are to have different places.
-ghost use mathlib.Core.Bool.{true};
 ghost use mathlib.Core.Path.{_≡_};
-ghost use Prim.Native.Nat.{ℕ, _+_, _*_, _<_, _≤_};
+ghost use Prim.Native.Nat.{_+_, _*_, _<_, _≤_};
 ghost use lib.ListN.{length};
 ghost use Rattle.places.specs.Families.{family};
 ghost use Rattle.rules.specs.Narrowing.{Narrowed, Scope};
 ghost use Rattle.rules.specs.Progressions.{jobs-of, no-place-twice};
-ghost use Rattle.components.specs.Walks.{setting, Settled};
+ghost use Rattle.components.specs.Walks.{setting, FullMatching};
 ghost use Rattle.distinct.specs.Scopes.{scoped};
 use crate::group::count_none;
 use crate::scope::Scoped;
@@ -33,7 +32,7 @@ fn narrow_full<'x, L: PlaceSet + Copy>(
     requires few { ⌜ now jobs .count ≤ 256 ⌝ }
     requires scope { ⌜ Scope (length (now lists)) (jobs-of (now jobs)) ⌝ }
     requires tables { ⌜ (length (now places) ≡ now jobs .count) × (length (now cursors) ≡ now jobs .count) × (length (now marks) ≡ now jobs .count) × (4 * now jobs .count ≤ length (now numbers)) ⌝ }
-    requires full { ⌜ Settled (setting (now jobs .count) (L·PlaceSet .limit) (scoped (jobs-of (now jobs)) (family (L·PlaceSet .has) (now lists))) (now places) (now holders)) ⌝ }
+    requires full { ⌜ FullMatching (setting (now jobs .count) (L·PlaceSet .limit) (scoped (jobs-of (now jobs)) (family (L·PlaceSet .has) (now lists))) (now places) (now holders)) ⌝ }
     ensures { λ _. ⌜ Narrowed (jobs-of (now (jobs .entry))) no-place-twice (family (L·PlaceSet .has) (now (lists .entry))) (family (L·PlaceSet .has) (now (lists .exit))) ⌝ }
 {
     let m = jobs.count as usize;

@@ -1,10 +1,9 @@
 // The distinct rule.
 ghost use mathlib.Core.Path.{_≡_};
-ghost use mathlib.Core.Bool.{Bool, true, _&&_};
-ghost use mathlib.Core.List.{List};
-ghost use Prim.Native.Nat.{ℕ, _+_, _*_, _/_, _%_, _<_, _≤_};
+ghost use mathlib.Core.Bool.{_&&_};
+ghost use Prim.Native.Nat.{_+_, _*_, _/_, _%_, _<_};
 ghost use lib.Dec.{eqb, ltb};
-ghost use lib.ListN.{length, getD};
+ghost use lib.ListN.{getD};
 ghost use Rattle.std.specs.declared.option.Option.the-variants.{Some};
 ghost use Rattle.theory.specs.Lists.{member};
 ghost use Rattle.rules.specs.Progressions.{spread, no-place-twice};
@@ -20,6 +19,19 @@ pub struct Distinct {
     pub first: u16,
     pub step: u16,
     pub count: u16,
+}
+
+impl Distinct {
+    // The jobs of the rule.
+    fn jobs(&self) -> Progression
+        ensures { λ r. ⌜ r ≡ record { first = now (self .entry) .first; step = now (self .entry) .step; count = now (self .entry) .count } ⌝ }
+    {
+        Progression {
+            first: self.first,
+            step: self.step,
+            count: self.count,
+        }
+    }
 }
 
 // Whether `distance` is a multiple of `step` by a number below `count`.
@@ -78,19 +90,11 @@ pub impl Rule for Distinct as DistinctRule {
     }
 
     fn names_distinct(&self) -> Option<Progression> {
-        Some(Progression {
-            first: self.first,
-            step: self.step,
-            count: self.count,
-        })
+        Some(self.jobs())
     }
 
     fn narrow<L: PlaceSet + Copy>(&self, lists: &mut [L], numbers: &mut [u16]) {
-        let jobs = Progression {
-            first: self.first,
-            step: self.step,
-            count: self.count,
-        };
+        let jobs = self.jobs();
         narrow_jobs(&jobs, lists, numbers);
     }
 }

@@ -1,7 +1,7 @@
 // The lists of a progression's jobs.
 ghost use denote.Ref.{now};
 ghost use mathlib.Core.Path.{_≡_};
-ghost use Prim.Native.Nat.{ℕ, _+_, _-_, _*_, _<_, _≤_};
+ghost use Prim.Native.Nat.{_+_, _-_, _*_, _<_, _≤_};
 ghost use lib.ListN.{length, getD};
 ghost use Rattle.places.specs.Families.{family};
 ghost use Rattle.rules.specs.Progressions.{jobs-of};

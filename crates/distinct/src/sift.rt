@@ -1,7 +1,7 @@
 // Strikes places from the lists of a progression's jobs.
 ghost use mathlib.Core.Bool.{false, _&&_};
 ghost use mathlib.Core.Path.{_≡_};
-ghost use Prim.Native.Nat.{ℕ, _+_, _*_, _<_, _≤_};
+ghost use Prim.Native.Nat.{ℕ, _+_, _*_, _<_};
 ghost use lib.ListN.{length};
 ghost use Rattle.places.specs.Families.{family};
 ghost use Rattle.rules.specs.Narrowing.{Scope};

@@ -1,5 +1,5 @@
 -- The steps of a search from all jobs without a place.
-use Prim.Native.Nat.{ℕ, zero, suc, _+_, _-_, _<_, _≤_}
+use Prim.Native.Nat.{ℕ, suc, _+_, _-_, _<_, _≤_}
 use mathlib.Core.Path.{_≡_, refl, sym, ap, _∙_, subst, subst₂}
 use mathlib.Core.Bool.{Bool, true, false, not, _&&_, _||_}
 use mathlib.Core.Logic.{_≢_, _⊎_, inl, inr}
@@ -7,24 +7,24 @@ use mathlib.Core.List.{List, [], _∷_, _++_}
 use native.Mathlib.Decide.{ℕ-discrete, decLt}
 use native.Mathlib.Omega.{arith}
 use lib.Dec.{eqb}
-use lib.ListN.{length, set, take, drop, length-set, length-append, length-take, length-drop}
+use lib.ListN.{length, set, length-set, length-append, length-take, length-drop}
 use lib.Seq.{getD-set-same, getD-set-other}
 use borrow.Author.Tests.{eqb-true, eq-eqb, ne-eqb, not-true}
 use Rattle.queue.specs.declared.RingQueue.{RingQueue}
 use Rattle.queue.specs.Ring.{entries}
 use Rattle.queue.specs.Ring as ring
 use Rattle.theory.specs.Counts.{bit, sum, count}
-use Rattle.theory.specs.Assignments.{Valid, Stuck, Reached, put, with}
+use Rattle.theory.specs.Assignments.{put, with}
 use Rattle.theory.specs.SingleRows.{single}
-use Rattle.theory.proofs.Sums.{cases, clash, or-cases, or-left, or-right, sum-eq, sum-zero, count-most, count-pos}
+use Rattle.theory.proofs.Sums.{cases, clash, or-cases, or-left, or-right, sum-eq, sum-zero, count-most}
 use Rattle.theory.proofs.Moves.{with-same, with-has, with-is, count-with}
 use Rattle.matching.specs.Tables.{at, filled}
 use Rattle.matching.specs.Matched.{Matched, Stalled}
-use Rattle.matching.specs.Searching.{left, Grown, Searching, Rooted, Found}
+use Rattle.matching.specs.Searching.{left, Searching, Rooted}
 use Rattle.theory.specs.Lists.{member}
 use Rattle.matching.proofs.Tables.{at-set}
 use Rattle.theory.specs.Forest.{Forest}
-use Rattle.matching.proofs.Tables.{filled-some, filled-none, none-filled, some-filled, filled-set}
+use Rattle.matching.proofs.Tables.{none-filled, some-filled, filled-set}
 use Rattle.theory.proofs.Forests.{forest-starts, forest-grows, forest-reached}
 use Rattle.matching.proofs.Shifts.{held-tight}
 

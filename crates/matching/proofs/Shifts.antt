@@ -1,7 +1,7 @@
 -- The moves of `shift`, in tables.
-use Prim.Native.Nat.{ℕ, zero, suc, _+_, _<_, _≤_}
+use Prim.Native.Nat.{ℕ, zero, _+_, _<_, _≤_}
 use mathlib.Core.Path.{_≡_, refl, sym, ap, _∙_, subst, subst₂}
-use mathlib.Core.Bool.{Bool, true, false, not, _&&_}
+use mathlib.Core.Bool.{Bool, true, false, _&&_}
 use mathlib.Core.Logic.{_≢_, _⊎_, inl, inr}
 use mathlib.Core.List.{List, []}
 use native.Mathlib.Decide.{ℕ-discrete}
@@ -11,17 +11,16 @@ use lib.ListN.{length, set, length-set}
 use lib.Seq.{getD-set-same, getD-set-other}
 use borrow.Author.Tests.{eqb-true, eq-eqb}
 use Rattle.theory.specs.Counts.{bit, count}
-use Rattle.theory.specs.Assignments.{Valid, Spare, Moving, put, with}
+use Rattle.theory.specs.Assignments.{Valid, Spare, Moving, with}
 use Rattle.theory.specs.SingleRows.{single}
-use Rattle.theory.proofs.Sums.{cases, clash, both, sum-zero, count-pos, and-left, and-right}
+use Rattle.theory.proofs.Sums.{cases, both, sum-zero, count-pos, and-left, and-right}
 use Rattle.theory.proofs.Moves.{with-same, with-has, with-is, add-valid, count-with}
 use Rattle.matching.specs.Tables.{at, filled}
 use Rattle.matching.specs.Matched.{Matched}
-use Rattle.matching.specs.Searching.{Found}
 use Rattle.matching.specs.Shifting.{Scene, Ready, Grows, Shifting}
 use Rattle.matching.proofs.Tables.{at-set}
 use Rattle.theory.specs.Forest.{Forest}
-use Rattle.matching.proofs.Tables.{some-filled, none-filled, filled-some, filled-none, filled-set, with-again}
+use Rattle.matching.proofs.Tables.{some-filled, none-filled, filled-set, with-again}
 use Rattle.theory.proofs.Forests.{moving-goes-on}
 
 -- nobody has a place that is spare

@@ -1,17 +1,16 @@
 -- Tables as functions, in which 65535 stands for no number.
-use Prim.Native.Nat.{ℕ, zero, suc, _+_, _<_, _≤_}
+use Prim.Native.Nat.{ℕ, _<_}
 use mathlib.Core.Path.{_≡_, refl, sym, ap, _∙_, fun-ext, subst}
 use mathlib.Core.Bool.{Bool, true, false, not, _||_, cond}
-use mathlib.Core.Logic.{_≢_, inl, inr}
+use mathlib.Core.Logic.{_≢_}
 use mathlib.Core.List.{List}
 use native.Mathlib.Decide.{ℕ-discrete}
-use native.Mathlib.Omega.{arith}
 use lib.Dec.{eqb}
 use lib.ListN.{length, set, replicate, length-replicate, getD-replicate}
 use lib.Seq.{getD-set-same, getD-set-other}
-use borrow.Author.Tests.{not-true, eqb-true, eq-eqb, ne-eqb}
+use borrow.Author.Tests.{eq-eqb, ne-eqb}
 use Rattle.theory.specs.Assignments.{put, with}
-use Rattle.theory.proofs.Sums.{cases, clash}
+use Rattle.theory.proofs.Sums.{clash}
 use Rattle.theory.proofs.Moves.{put-same, put-other, with-same, with-other}
 use Rattle.matching.specs.Tables.{at, filled}
 
@@ -24,9 +23,6 @@ at-set xs c q l = fun-ext (λ k. elim (ℕ-discrete k c) [
 
 pub filled-some : (xs : List ℕ) (k : ℕ) → filled xs k ≡ true → at xs k ≢ 65535
 filled-some xs k e q = clash e (ap not (eq-eqb (at xs k) 65535 q))
-
-pub filled-none : (xs : List ℕ) (k : ℕ) → filled xs k ≡ false → at xs k ≡ 65535
-filled-none xs k e = elim (ℕ-discrete (at xs k) 65535) [ yes q ↦ q | no ne ↦ absurd (clash (ap not (ne-eqb (at xs k) 65535 ne)) e) ]
 
 pub some-filled : (xs : List ℕ) (k : ℕ) → at xs k ≢ 65535 → filled xs k ≡ true
 some-filled xs k ne = ap not (ne-eqb (at xs k) 65535 ne)

@@ -1,7 +1,6 @@
 // Which places each of some jobs can take.
 ghost use denote.Ref.{now};
 ghost use mathlib.Core.Bool.{Bool};
-ghost use mathlib.Core.Path.{_≡_};
 ghost use Prim.Native.Nat.{ℕ, _<_};
 ghost use Rattle.std.specs.Options.{Cases as BySome};
 ghost use Rattle.places.specs.Sets.{First};

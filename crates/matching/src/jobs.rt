@@ -1,5 +1,4 @@
 // A largest matching: first each job takes what is free, then jobs move to make room for the others.
-ghost use mathlib.Core.Logic.{_≢_};
 ghost use mathlib.Core.Path.{_≡_};
 ghost use Prim.Native.Nat.{ℕ, _<_, _≤_};
 ghost use lib.ListN.{length, getD};

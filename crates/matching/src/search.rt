@@ -1,13 +1,12 @@
 // A breadth-first search from all jobs without a place for one that can be given a place.
-ghost use mathlib.Core.Bool.{Bool, true, false, not};
-ghost use mathlib.Core.Logic.{_≢_};
+ghost use mathlib.Core.Bool.{true};
 ghost use mathlib.Core.List.{[], _∷_, _++_};
 ghost use mathlib.Core.Path.{_≡_};
-ghost use Prim.Native.Nat.{ℕ, _<_, _≤_};
+ghost use Prim.Native.Nat.{_<_, _≤_};
 ghost use lib.ListN.{length, set};
 ghost use Rattle.std.specs.Options.{Cases as BySome};
 ghost use Rattle.queue.specs.Ring.{entries, Ready};
-ghost use Rattle.matching.specs.Tables.{at, filled};
+ghost use Rattle.matching.specs.Tables.{filled};
 ghost use Rattle.matching.specs.Matched.{Matched, Stalled};
 ghost use Rattle.matching.specs.Searching.{left, Searching, Rooted, Found};
 use crate::bipartite::Bipartite;

@@ -1,14 +1,14 @@
 -- Counting bounds on assignments.
-use Prim.Native.Nat.{ℕ, zero, suc, _+_, _<_, _≤_}
-use mathlib.Core.Path.{_≡_, refl, sym, ap, ap₂, _∙_, subst}
+use Prim.Native.Nat.{ℕ, _+_, _<_, _≤_}
+use mathlib.Core.Path.{_≡_, refl, sym, subst}
 use mathlib.Core.Bool.{Bool, true, false, _&&_, _||_, not}
 use mathlib.Core.Logic.{_⊎_, inl, inr}
 use native.Mathlib.Omega.{arith}
 use lib.Dec.{eqb}
 use borrow.Author.Tests.{eqb-true, eq-eqb}
-use Rattle.theory.specs.Counts.{bit, gate, sum, count, some}
-use Rattle.theory.specs.Assignments.{Problem, Valid, Full, load, Spare, near, room, all}
-use Rattle.theory.proofs.Sums.{cases, clash, and-left, and-right, both, sum-le, sum-eq, gate-le, count-le, count-eq, count-lt, count-split, count-classes, some-has, some-at}
+use Rattle.theory.specs.Counts.{gate, count}
+use Rattle.theory.specs.Assignments.{Problem, Valid, Full, load, near, room, all}
+use Rattle.theory.proofs.Sums.{and-left, and-right, both, sum-le, gate-le, count-le, count-lt, count-split, count-classes, some-has, some-at}
 
 -- the assigned jobs at the places of N are at most what N takes
 pub at-most-room : (P : Problem) (A N : ℕ → Bool) (f : ℕ → ℕ) → Valid P A f → count (λ k. A k && N (f k)) (P .jobs) ≤ room P N

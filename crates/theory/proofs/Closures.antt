@@ -1,11 +1,11 @@
 -- The closure of a set under a table of steps exists.
 use Prim.Native.Nat.{ℕ, zero, suc, _+_, _<_, _≤_}
-use mathlib.Core.Path.{_≡_, refl, sym, ap, _∙_, subst}
+use mathlib.Core.Path.{_≡_, sym, ap, subst}
 use mathlib.Core.Bool.{Bool, true, false, _&&_, not}
-use mathlib.Core.Logic.{_⊎_, inl, inr, _≢_}
+use mathlib.Core.Logic.{inl, inr}
 use native.Mathlib.Omega.{arith}
 use borrow.Author.Tests.{not-true}
-use Rattle.theory.specs.Counts.{bit, sum, count, some}
+use Rattle.theory.specs.Counts.{count, some}
 use Rattle.theory.specs.Reach.{Reach, here, step, Along}
 use Rattle.theory.specs.Assignments.{with}
 use Rattle.theory.proofs.Sums.{cases, clash, and-left, and-right, both, count-most, count-lt, some-has, some-at}

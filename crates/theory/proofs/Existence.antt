@@ -1,16 +1,15 @@
 -- Every problem has an assignment that cannot be extended, so it has a group, and only one.
-use Prim.Native.Nat.{ℕ, zero, suc, _+_, _<_, _≤_}
-use mathlib.Core.Path.{_≡_, refl, sym, ap, _∙_, subst}
-use mathlib.Core.Bool.{Bool, true, false, _&&_, _||_, not}
-use mathlib.Core.Logic.{_⊎_, inl, inr, _≢_}
-use native.Mathlib.Decide.{ℕ-discrete}
+use Prim.Native.Nat.{ℕ, zero, suc, _<_, _≤_}
+use mathlib.Core.Path.{_≡_, refl, sym, ap, subst}
+use mathlib.Core.Bool.{Bool, true, false, _&&_, not}
+use mathlib.Core.Logic.{inl, inr}
 use native.Mathlib.Omega.{arith}
 use lib.Dec.{eqb, ltb}
 use borrow.Author.Tests.{not-true, ltb-true, lt-ltb}
 use native.Mathlib.Decide.{decLt}
-use Rattle.theory.specs.Counts.{bit, sum, count, some}
-use Rattle.theory.specs.Reach.{Reach, here, step, Along}
-use Rattle.theory.specs.Assignments.{Problem, Valid, Full, load, Spare, all, near, room, missing, Leads, Open, with, Assignment, Stuck, Reached, Deficient, Group}
+use Rattle.theory.specs.Counts.{bit, some}
+use Rattle.theory.specs.Reach.{Along}
+use Rattle.theory.specs.Assignments.{Problem, Valid, load, missing, Leads, Open, with, Assignment, Stuck, Reached, Deficient, Group}
 use Rattle.theory.proofs.Sums.{cases, clash, and-left, and-right, both, sum-zero, count-lt, some-has, some-at}
 use Rattle.theory.proofs.Walks.{reach-map}
 use Rattle.theory.proofs.Moves.{augment, with-same, with-has}

@@ -1,15 +1,12 @@
 -- The group of a family: what an assignment that cannot be extended says of deficiencies.
-use Prim.Native.Nat.{ℕ, zero, suc, _+_, _<_, _≤_}
-use mathlib.Core.Path.{_≡_, refl, sym, ap, ap₂, _∙_, subst}
-use mathlib.Core.Bool.{Bool, true, false, _&&_, _||_, not}
-use mathlib.Core.Logic.{_⊎_, inl, inr}
+use Prim.Native.Nat.{ℕ, _<_, _≤_}
+use mathlib.Core.Path.{_≡_, refl, ap, _∙_}
+use mathlib.Core.Bool.{Bool, true, false, _&&_, not}
 use native.Mathlib.Omega.{arith}
-use lib.Dec.{eqb}
 use borrow.Author.Tests.{not-true}
-use Rattle.theory.specs.Counts.{bit, gate, sum, count, some}
-use Rattle.theory.specs.Reach.{Reach}
+use Rattle.theory.specs.Counts.{gate, count}
 use Rattle.theory.specs.Assignments.{Problem, Valid, Full, load, all, near, room, missing, Leads, Stuck, Reached, Deficient, Group}
-use Rattle.theory.proofs.Sums.{cases, clash, and-left, and-right, both, sum-zero, count-le, count-eq, count-pos, count-tight, count-split, count-same, some-at, some-same, sum-eq}
+use Rattle.theory.proofs.Sums.{and-left, and-right, both, sum-zero, count-le, count-eq, count-pos, count-tight, count-split, count-same, some-at, some-same, sum-eq}
 use Rattle.theory.proofs.Walks.{reach-keeps}
 use Rattle.theory.proofs.Bounds.{at-most-room, at-least-room, near-has, bound, deficiency-bound}
 

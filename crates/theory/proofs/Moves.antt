@@ -1,17 +1,17 @@
 -- Moves of one job, and the moves along a walk.
 use Prim.Native.Nat.{ℕ, zero, suc, _+_, _<_, _≤_}
 use mathlib.Core.Path.{_≡_, refl, sym, ap, ap₂, _∙_, subst}
-use mathlib.Core.Bool.{Bool, true, false, _&&_, _||_, not, cond}
+use mathlib.Core.Bool.{Bool, true, false, _&&_}
 use mathlib.Core.Logic.{_⊎_, inl, inr, _≢_}
 use native.Mathlib.Decide.{ℕ-discrete}
 use native.Mathlib.Omega.{arith}
 use lib.Dec.{eqb}
 use borrow.Author.Tests.{eqb-true, eq-eqb, ne-eqb}
-use Rattle.theory.specs.Counts.{bit, gate, sum, count, some}
+use Rattle.theory.specs.Counts.{bit, count}
 use Rattle.theory.specs.Reach.{Reach, here, step}
-use Rattle.theory.specs.Assignments.{Problem, Valid, Full, load, Spare, all, Leads, Open, put, with, Assignment, Support}
-use Rattle.theory.proofs.Sums.{or-left, or-right, or-cases, cases, clash, and-left, and-right, both, sum-put, bit-one}
-use Rattle.theory.proofs.Walks.{Steps, steps-keep, reach-steps, reach-keeps, avoid}
+use Rattle.theory.specs.Assignments.{Problem, Valid, load, Spare, Leads, Open, put, with, Assignment}
+use Rattle.theory.proofs.Sums.{or-right, or-cases, clash, sum-put}
+use Rattle.theory.proofs.Walks.{Steps, reach-steps, avoid}
 
 pub put-same : (f : ℕ → ℕ) (c q : ℕ) → put f c q c ≡ q
 put-same f c q = simp (eq-eqb c c refl)

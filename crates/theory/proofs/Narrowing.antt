@@ -1,15 +1,13 @@
 -- The test that narrowing makes is right: a place passes exactly if a full assignment puts its job there.
-use Prim.Native.Nat.{ℕ, _+_, _<_, _≤_}
-use mathlib.Core.Path.{_≡_, refl, sym, ap, _∙_, subst}
+use Prim.Native.Nat.{ℕ, _<_, _≤_}
+use mathlib.Core.Path.{_≡_, refl, sym, ap, subst}
 use mathlib.Core.Bool.{Bool, true, false, _&&_, _||_, not}
 use mathlib.Core.Logic.{_⊎_, inl, inr, _≢_}
 use native.Mathlib.Decide.{decLt}
 use native.Mathlib.Omega.{arith}
 use lib.Dec.{eqb, ltb}
-use borrow.Author.Tests.{eqb-true, eq-eqb, eqb-false, ltb-true, lt-ltb, le-ltb, not-true}
-use Rattle.theory.specs.Counts.{some}
-use Rattle.theory.specs.Reach.{Reach}
-use Rattle.theory.specs.Assignments.{Problem, Valid, Full, load, Spare, all, Leads, Open, Support, Yields, Searched, keeps}
+use borrow.Author.Tests.{eqb-true, eq-eqb, ltb-true, lt-ltb, le-ltb, not-true}
+use Rattle.theory.specs.Assignments.{Problem, Full, load, all, Support, Yields, Searched, keeps}
 use Rattle.theory.proofs.Sums.{cases, clash, and-left, and-right, both, or-left, or-right, or-cases, some-has, some-at}
 use Rattle.theory.proofs.Bounds.{no-support}
 use Rattle.theory.proofs.Supports.{support}

@@ -1,16 +1,15 @@
 -- Rows as lists and as functions.
 use Prim.Native.Nat.{ℕ, zero, suc, _+_, _<_, _≤_}
-use mathlib.Core.Path.{_≡_, refl, sym, ap, ap₂, _∙_, subst}
-use mathlib.Core.Bool.{Bool, true, false, _&&_}
+use mathlib.Core.Path.{_≡_, refl, sym, ap, _∙_, subst}
+use mathlib.Core.Bool.{true}
 use mathlib.Core.List.{List, [], _∷_}
-use mathlib.Core.Logic.{_⊎_, inl, inr, _≢_}
-use native.Mathlib.Decide.{ℕ-discrete, decLe}
+use native.Mathlib.Decide.{decLe}
 use native.Mathlib.Omega.{arith}
 use lib.Dec.{eqb, leb}
 use lib.ListN.{length, getD}
-use borrow.Author.Tests.{leb-true, le-leb, eqb-true, eq-eqb}
+use borrow.Author.Tests.{leb-true, le-leb, eqb-true}
 use Rattle.theory.specs.Counts.{bit, sum, count}
-use Rattle.theory.specs.Assignments.{Problem, Valid, Full, load, all, Support}
+use Rattle.theory.specs.Assignments.{Problem, load, all, Support}
 use Rattle.theory.specs.RowSupports.{RowSupport}
 use Rattle.theory.specs.Rows.{occurs, fit, admits}
 use Rattle.theory.proofs.Sums.{and-left, and-right, both, sum-eq, count-has}

@@ -1,16 +1,16 @@
 -- Where each place takes one job, a full assignment is a row with no place twice.
-use Prim.Native.Nat.{ℕ, zero, suc, _+_, _<_, _≤_}
+use Prim.Native.Nat.{ℕ, zero, suc, _<_, _≤_}
 use mathlib.Core.Path.{_≡_, refl, sym, ap, _∙_, subst}
-use mathlib.Core.Bool.{Bool, true, false, _&&_}
-use mathlib.Core.Logic.{_⊎_, inl, inr, _≢_}
+use mathlib.Core.Bool.{Bool, true}
+use mathlib.Core.Logic.{_⊎_, inl, inr}
 use native.Mathlib.Decide.{ℕ-discrete}
 use native.Mathlib.Omega.{arith}
 use lib.Dec.{eqb}
 use borrow.Author.Tests.{eqb-true, eq-eqb}
 use Rattle.theory.specs.Counts.{bit, sum, count}
-use Rattle.theory.specs.Assignments.{Problem, Valid, Full, load, all}
+use Rattle.theory.specs.Assignments.{Full}
 use Rattle.theory.specs.SingleRows.{single, Row}
-use Rattle.theory.proofs.Sums.{cases, clash, sum-zero, count-pos}
+use Rattle.theory.proofs.Sums.{cases, sum-zero, count-pos}
 
 -- at most one passes a test that no two pass
 pub count-one : (t : ℕ → Bool) (n : ℕ) → ((i j : ℕ) → i < n → j < n → t i ≡ true → t j ≡ true → i ≡ j) → count t n ≤ 1

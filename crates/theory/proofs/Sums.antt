@@ -1,12 +1,12 @@
 -- Laws of sums and counts below a bound.
 use Prim.Native.Nat.{ℕ, zero, suc, _+_, _<_, _≤_}
-use mathlib.Core.Path.{_≡_, refl, sym, ap, ap₂, _∙_, subst}
+use mathlib.Core.Path.{_≡_, refl, sym, ap, ap₂, _∙_}
 use mathlib.Core.Bool.{Bool, true, false, _&&_, _||_, not, true≢false}
 use mathlib.Core.Logic.{_⊎_, inl, inr}
 use native.Mathlib.Decide.{ℕ-discrete}
 use native.Mathlib.Omega.{arith}
 use lib.Dec.{eqb}
-use borrow.Author.Tests.{eqb-true, eq-eqb, ne-eqb}
+use borrow.Author.Tests.{eq-eqb, ne-eqb}
 use Rattle.theory.specs.Counts.{bit, gate, sum, count, some}
 
 -- ---- a Bool is true or false
@@ -235,9 +235,6 @@ gate-off : (b a t : Bool) → t ≡ false → gate b (bit (a && t)) ≡ 0
 gate-off true true t e = ap bit e
 gate-off true false t e = refl
 gate-off false a t e = refl
-
-gate-none : (b a t : Bool) → a ≡ false → gate b (bit (a && t)) ≡ bit (a && b)
-gate-none b a t e = simp (e, gate-zero)
 
 gate-here : (b a t : Bool) → t ≡ true → gate b (bit (a && t)) ≡ bit (a && b)
 gate-here b true t e = simp (e, gate-bit)

@@ -1,14 +1,13 @@
 -- Which full assignments put a job at a place.
-use Prim.Native.Nat.{ℕ, zero, suc, _+_, _<_, _≤_}
-use mathlib.Core.Path.{_≡_, refl, sym, ap, ap₂, _∙_, subst}
-use mathlib.Core.Bool.{Bool, true, false, _&&_, _||_, not, cond, true≢false}
+use Prim.Native.Nat.{ℕ, suc, _+_, _<_, _≤_}
+use mathlib.Core.Path.{_≡_, refl, sym, ap, _∙_, subst}
+use mathlib.Core.Bool.{Bool, true, false, _&&_, _||_, not, true≢false}
 use mathlib.Core.Logic.{_⊎_, inl, inr, _≢_}
 use native.Mathlib.Decide.{ℕ-discrete}
 use native.Mathlib.Omega.{arith}
 use lib.Dec.{eqb}
 use borrow.Author.Tests.{eqb-true, eq-eqb, ne-eqb}
-use Rattle.theory.specs.Counts.{bit, sum, count}
-use Rattle.theory.specs.Reach.{Reach, here, step}
+use Rattle.theory.specs.Counts.{bit}
 use Rattle.theory.specs.Assignments.{Problem, Valid, Full, load, Spare, all, Leads, Open, put, Support, Yields}
 use Rattle.theory.proofs.Sums.{and-left, and-right, both}
 use Rattle.theory.proofs.Walks.{Steps, reach-steps, avoid}

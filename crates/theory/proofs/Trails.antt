@@ -1,6 +1,6 @@
 -- The steps of a path-based search for components.
-use Prim.Native.Nat.{ℕ, zero, suc, _+_, _-_, _<_, _≤_}
-use mathlib.Core.Path.{_≡_, refl, sym, ap, _∙_, subst, subst₂}
+use Prim.Native.Nat.{ℕ, suc, _-_, _<_, _≤_}
+use mathlib.Core.Path.{_≡_, sym, ap, _∙_, subst, subst₂}
 use mathlib.Core.Bool.{Bool, true, false}
 use mathlib.Core.Logic.{_⊎_, _≢_, inl, inr}
 use native.Mathlib.Decide.{ℕ-discrete, decLt}
@@ -10,32 +10,9 @@ use Rattle.theory.specs.Assignments.{put, with}
 use Rattle.theory.proofs.Sums.{cases, clash}
 use Rattle.theory.proofs.Walks.{reach-trans}
 use Rattle.theory.proofs.Moves.{put-same, put-other, with-same, with-other, with-has, with-is}
-use Rattle.theory.specs.Trail.{Trail, Uncut, On, Spent, Ends, LooseBy, Loosened}
+use Rattle.theory.specs.Trail.{Trail, Uncut, Spent, Ends, LooseBy, Loosened}
 
 module _ (R : ℕ → ℕ → Type 0) (m : ℕ) where
-  -- nothing was seen
-  pub trail-starts : (past : ℕ → ℕ → Type 0) (comp pos node path : ℕ → ℕ) → ((a b : ℕ) → past a b → ⊥) → Trail R past m (λ a. false) (λ a. false) comp 0 pos node 0 (λ z. false) path 0
-  trail-starts past comp pos node path h = record {
-    on-job = λ x l. absurd (omega arith);
-    on-open = λ x l. refl;
-    on-seen = λ x l. absurd (omega arith);
-    on-pos = λ x l. absurd (omega arith);
-    done-seen = λ a l e. e;
-    seen-is = λ a l e. inl e;
-    fresh = λ a b l e p. h a b p;
-    up = λ x y l k. absurd (omega arith);
-    down = λ x y l k. absurd (omega arith);
-    closed = λ a b la lb e. absurd (clash e refl);
-    linked = λ a b la lb e. absurd (clash e refl);
-    numbered = λ a l e. absurd (clash e refl);
-    past-on = λ x b l. absurd (omega arith);
-    path-below = λ d l. absurd (omega arith);
-    path-rises = λ d e l k. absurd (omega arith);
-    cut-on = λ z e. absurd (clash e refl);
-    rest = λ x l. absurd (omega arith);
-    first = λ l. absurd (omega arith);
-  }
-
   module _ (past : ℕ → ℕ → Type 0) (seen done : ℕ → Bool) (comp : ℕ → ℕ) (next : ℕ) (pos node : ℕ → ℕ) (top : ℕ) (cut : ℕ → Bool) (path : ℕ → ℕ) (depth : ℕ)
       (t : Trail R past m seen done comp next pos node top cut path depth) where
     -- the last of the path stands in the topmost segment

@@ -1,6 +1,6 @@
 -- Walks of bounded length, and how a walk goes round a number.
-use Prim.Native.Nat.{ℕ, zero, suc, _≤_}
-use mathlib.Core.Path.{_≡_, refl, sym, _∙_, subst}
+use Prim.Native.Nat.{ℕ, zero, suc}
+use mathlib.Core.Path.{_≡_, refl, _∙_, subst}
 use mathlib.Core.Logic.{_⊎_, inl, inr, _≢_}
 use native.Mathlib.Decide.{ℕ-discrete}
 use Rattle.theory.specs.Reach.{Reach, here, step}
@@ -9,15 +9,6 @@ use Rattle.theory.specs.Reach.{Reach, here, step}
 abbrev pub Steps : (ℕ → ℕ → Type 0) → ℕ → ℕ → ℕ → Type 0
 Steps R zero i j = i ≡ j
 Steps R (suc n) i j = (i ≡ j) ⊎ ((k : ℕ) × R i k × Steps R n k j)
-
-pub steps-here : (R : ℕ → ℕ → Type 0) (n i : ℕ) → Steps R n i i
-steps-here R zero i = refl
-steps-here R (suc n) i = inl refl
-
-pub steps-reach : (R : ℕ → ℕ → Type 0) (n i j : ℕ) → Steps R n i j → Reach R i j
-steps-reach R zero i j e = subst (Reach R i) e here
-steps-reach R (suc n) i j (inl e) = subst (Reach R i) e here
-steps-reach R (suc n) i j (inr x) = step (x .1) (steps-reach R n (x .0) j (x .2))
 
 pub reach-steps : (R : ℕ → ℕ → Type 0) (i j : ℕ) → Reach R i j → (n : ℕ) × Steps R (suc n) i j
 reach-steps R i j here = (0, inl refl)
@@ -31,9 +22,6 @@ reach-trans R i j k (step {j = l} r s) t = step r (reach-trans R l j k s t)
 pub reach-keeps : (R : ℕ → ℕ → Type 0) (P : ℕ → Type 0) → ((a b : ℕ) → P a → R a b → P b) → (i j : ℕ) → Reach R i j → P i → P j
 reach-keeps R P h i j here p = p
 reach-keeps R P h i j (step {j = k} r s) p = reach-keeps R P h k j s (h i k p r)
-
-pub steps-keep : (R : ℕ → ℕ → Type 0) (P : ℕ → Type 0) → ((a b : ℕ) → P a → R a b → P b) → (n i j : ℕ) → Steps R n i j → P i → P j
-steps-keep R P h n i j s = reach-keeps R P h i j (steps-reach R n i j s)
 
 -- A walk that does not start at x goes round x, or a shorter one comes to a number that leads to x. The steps away from x may be
 -- those of another relation.

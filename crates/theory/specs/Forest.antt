@@ -1,7 +1,7 @@
 -- Search forests from all jobs without a place.
-use Prim.Native.Nat.{ℕ, zero, suc, _<_, _≤_}
+use Prim.Native.Nat.{ℕ, zero, suc, _<_}
 use mathlib.Core.Path.{_≡_}
-use mathlib.Core.Bool.{Bool, true, false, cond}
+use mathlib.Core.Bool.{Bool, true, cond}
 use Rattle.theory.specs.Counts.{count}
 use Rattle.theory.specs.Assignments.{Problem}
 

@@ -1,8 +1,8 @@
 -- The states of a path-based search for strongly connected components, which follows steps forward only.
-use Prim.Native.Nat.{ℕ, suc, _+_, _<_, _≤_}
+use Prim.Native.Nat.{ℕ, _<_, _≤_}
 use mathlib.Core.Path.{_≡_}
 use mathlib.Core.Bool.{Bool, true, false}
-use mathlib.Core.Logic.{_⊎_, _≢_}
+use mathlib.Core.Logic.{_⊎_}
 use Rattle.theory.specs.Reach.{Reach}
 
 -- no segment begins after x up to y

@@ -1,6 +1,6 @@
 use Prim.Native.Nat.{ℕ, _-_, _<_, _≤_}
 use mathlib.Core.Path.{_≡_}
-use mathlib.Core.Bool.{true, false}
+use mathlib.Core.Bool.{true}
 use Rattle.components.specs.Steps.{outlet}
 use Rattle.components.proofs.close.has_outlet.Given as given
 

@@ -1,5 +1,5 @@
-use mathlib.Core.Path.{_≡_, ap, subst}
-use Prim.Native.Nat.{ℕ, _≤_}
+use mathlib.Core.Path.{subst}
+use Prim.Native.Nat.{ℕ}
 use native.Mathlib.Decide.{ℕ-discrete}
 use native.Mathlib.Omega.{arith}
 use Rattle.std.proofs.shelf.Tests.{false≢true}

@@ -1,14 +1,11 @@
-use mathlib.Core.Path.{_≡_, sym, ap, _∙_}
-use mathlib.Core.Bool.{Bool, true}
+use mathlib.Core.Path.{_≡_, ap}
 use mathlib.Core.List.{List}
-use mathlib.Core.Logic.{_≢_}
 use Prim.Native.Nat.{ℕ, _+_, _-_, _<_, _≤_}
 use native.Mathlib.Omega.{arith}
-use lib.ListN.{length}
 use Rattle.matching.specs.Tables.{at}
 use Rattle.matching.proofs.Tables.{none-filled}
-use Rattle.components.specs.Walks.{Setting, setting, Tables, tables}
-use Rattle.components.proofs.Walks.{last-on, last-job, cuts-some, cuts-few, depth-few, tops, room, walked-pops}
+use Rattle.components.specs.Walks.{Setting, setting, tables}
+use Rattle.components.proofs.Walks.{last-on, last-job, cuts-few, depth-few, tops, room, walked-pops}
 use Rattle.components.proofs.Closes.{walked-closes, seen-closed}
 use Rattle.components.proofs.Follows.{spent-from, effort-falls, walked-past, walked-step, holder-job, seen-stays, depth-stays}
 use Rattle.components.proofs.walk.advance.Given as given

@@ -1,4 +1,4 @@
-use mathlib.Core.Path.{_≡_, _∙_}
+use mathlib.Core.Path.{_∙_}
 use Prim.Native.Nat.{_≤_}
 use native.Mathlib.Omega.{arith}
 use lib.ListN.{length}
@@ -37,10 +37,6 @@ list-marked-requires g c κs =
       small = λ i l. omega (arith, job-below d n (c .pre .scope) i l, c .pre .few);
       table = omega (arith, c .pre .table);
     }
-
-pub count-none-requires : need.count-none-requires
-count-none-requires g c κs =
-    omega (arith, count-few (c .args .jobs .now) (length (c .args .lists .now)) (c .pre .scope), c .pre .few, c .match-jobs .kept .places, c .split-at-mut-places .ensures .front-len)
 
 pub returns : need.returns
 returns g c =

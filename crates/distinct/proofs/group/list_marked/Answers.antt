@@ -1,13 +1,8 @@
-use mathlib.Core.Path.{_≡_, refl, sym, ap, _∙_, subst, subst₂}
-use mathlib.Core.List.{List, [], _∷_, _++_}
-use Prim.Native.Nat.{ℕ, suc, _+_, _<_, _≤_}
-use native.Mathlib.Numerals.{add-one}
+use mathlib.Core.Path.{sym, _∙_}
 use native.Mathlib.Omega.{arith}
-use lib.ListN.{length, take, drop}
 use Rattle.matching.specs.Tables.{filled}
 use Rattle.matching.proofs.Tables.{none-filled, some-filled}
 use Rattle.rules.specs.Progressions.{jobs-of}
-use Rattle.distinct.specs.Scopes.{chosen}
 use Rattle.distinct.proofs.Choosing.{listed-more, listed-same}
 use Rattle.distinct.proofs.Spreads.{spread-at}
 use Rattle.distinct.proofs.group.list_marked.Needs as need

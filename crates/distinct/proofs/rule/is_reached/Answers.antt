@@ -1,5 +1,5 @@
 use mathlib.Core.Logic.{inl, inr}
-use mathlib.Core.Path.{_≡_, _∙_}
+use mathlib.Core.Path.{_∙_}
 use native.Mathlib.Omega.{arith}
 use Rattle.distinct.proofs.Spreads.{none-stands, still-stands, step-stands}
 use Rattle.distinct.proofs.rule.is_reached.Needs as need

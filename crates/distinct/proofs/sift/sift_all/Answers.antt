@@ -1,8 +1,7 @@
-use mathlib.Core.Path.{_≡_, sym, _∙_, subst}
-use mathlib.Core.Bool.{false}
-use Prim.Native.Nat.{ℕ, _<_}
+use mathlib.Core.Path.{_≡_, _∙_, subst}
+use Prim.Native.Nat.{ℕ}
 use native.Mathlib.Omega.{arith}
-use lib.ListN.{length, getD}
+use lib.ListN.{length}
 use Rattle.places.specs.Families.{family}
 use Rattle.rules.specs.Progressions.{jobs-of}
 use Rattle.distinct.specs.Scopes.{Sifted, stays}

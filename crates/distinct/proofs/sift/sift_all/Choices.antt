@@ -1,4 +1,3 @@
-use mathlib.Core.Bool.{false}
 use Rattle.places.specs.Families.{family}
 use Rattle.rules.specs.Progressions.{jobs-of}
 use Rattle.distinct.specs.Scopes.{stays, Sifted}

@@ -1,9 +1,8 @@
-use mathlib.Core.Path.{_≡_, _∙_}
-use Prim.Native.Nat.{ℕ, _≤_}
+use mathlib.Core.Path.{_∙_}
+use Prim.Native.Nat.{_≤_}
 use native.Mathlib.Omega.{arith}
-use borrow.Author.Needs.{needs}
 use lib.ListN.{length}
-use Rattle.matching.specs.Shifting.{Scene, Ready, Grows}
+use Rattle.matching.specs.Shifting.{Scene}
 use Rattle.matching.proofs.Searching.{matched-none, seen-few}
 use Rattle.matching.proofs.Tables.{filled-with}
 use Rattle.matching.proofs.jobs.match_jobs.Needs as need

@@ -1,6 +1,4 @@
-use Prim.Native.Nat.{ℕ, _-_, _<_, _≤_}
-use mathlib.Core.Path.{_≡_}
-use lib.ListN.{length}
+use Prim.Native.Nat.{_-_}
 use Rattle.theory.specs.Counts.{count}
 use Rattle.matching.specs.Tables.{filled}
 use Rattle.matching.specs.Matched.{Matched}

@@ -1,5 +1,4 @@
-use mathlib.Core.List.{List}
-use Prim.Native.Nat.{ℕ, _<_}
+use Prim.Native.Nat.{_<_}
 use lib.ListN.{length}
 use Rattle.matching.specs.Tables.{at, filled}
 use Rattle.matching.specs.Shifting.{Scene, Ready, Shifting}

@@ -1,5 +1,4 @@
-use mathlib.Core.Path.{_≡_, sym, ap₂, _∙_, subst₂}
-use mathlib.Core.Bool.{Bool, true, false}
+use mathlib.Core.Path.{sym, ap₂, _∙_, subst₂}
 use mathlib.Core.List.{List}
 use mathlib.Core.Logic.{inl, inr}
 use Prim.Native.Nat.{ℕ, _<_}
@@ -7,7 +6,6 @@ use native.Mathlib.Omega.{arith}
 use lib.ListN.{length}
 use Rattle.queue.specs.declared.RingQueue.{RingQueue}
 use Rattle.queue.specs.Ring.{entries, Ready}
-use Rattle.matching.specs.Tables.{filled}
 use Rattle.matching.proofs.Searching.{enough, queue-room, scanned-all, scan-step}
 use Rattle.matching.proofs.search.scan.Needs as need
 use Rattle.matching.proofs.search.scan.Needs.{then-not-is-seen, else-not-is-seen}

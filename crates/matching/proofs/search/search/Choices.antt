@@ -1,8 +1,6 @@
-use Prim.Native.Nat.{ℕ, _-_, _<_, _≤_}
-use mathlib.Core.Path.{_≡_}
+use Prim.Native.Nat.{_-_}
 use lib.ListN.{length}
 use Rattle.queue.specs.Ring.{entries, Ready}
-use Rattle.matching.specs.Tables.{filled}
 use Rattle.matching.specs.Searching.{left, Searching}
 use Rattle.matching.proofs.search.search.Given as given
 
