@@ -1,11 +1,9 @@
 -- Families: one list of places for each job.
 use mathlib.Core.Path.{_≡_}
-use mathlib.Core.Bool.{Bool, true, false}
+use mathlib.Core.Bool.{Bool, true, false, not, _&&_, _||_}
 use mathlib.Core.List.{List, [], _∷_}
-use mathlib.Core.Logic.{_≢_}
-use Prim.Native.Nat.{ℕ, zero, suc, _<_, _≤_}
-use Rattle.std.specs.Options.{Cases}
-use Rattle.std.specs.declared.option.Option.{Option}
+use Prim.Native.Nat.{ℕ, zero, suc}
+use lib.Dec.{eqb}
 
 -- a family: whether job j holds place p
 abbrev pub Family : Type 0
@@ -21,13 +19,10 @@ family has (x ∷ xs) (suc j) p = family has xs j p
 abbrev pub Inside : Family → Family → Type 0
 Inside f g = (j p : ℕ) → f j p ≡ true → g j p ≡ true
 
--- job j holds no place at or past w
-abbrev pub Narrow : Family → ℕ → ℕ → Type 0
-Narrow f w j = (p : ℕ) → w ≤ p → f j p ≡ false
+-- f with place p struck from job j
+abbrev pub struck : ℕ → ℕ → Family → Family
+struck j p f i q = f i q && not (eqb i j && eqb q p)
 
--- r is the lowest job below n that holds a place at or past w, or says that there is none
-abbrev pub FirstPast : Family → ℕ → ℕ → Option ℕ → Type 0
-FirstPast f n w r =
-    Cases r
-    ((j : ℕ) → j < n → Narrow f w j)
-    (λ v. (v < n) × (Narrow f w v → ⊥) × ((j : ℕ) → j < v → Narrow f w j))
+-- f with job j fixed to place p
+abbrev pub fixed : ℕ → ℕ → Family → Family
+fixed j p f i q = f i q && (not (eqb i j) || eqb q p)

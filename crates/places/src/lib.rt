@@ -6,7 +6,6 @@ mod row;
 mod set;
 
 pub use family::empty;
-pub use family::first_past;
 pub use needles::NeedleList;
 pub use needles::NeedleSet;
 pub use row::CarrierRow;

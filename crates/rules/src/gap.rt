@@ -66,6 +66,10 @@ pub impl Rule for Gap as GapRule {
         job == self.a || job == self.b || job == self.c
     }
 
+    fn first_job(&self) -> u16 {
+        self.job(0)
+    }
+
     fn names_distinct(&self) -> Option<Progression> {
         None
     }

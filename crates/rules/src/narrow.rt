@@ -2,12 +2,13 @@
 ghost use mathlib.Core.Path.{_≡_};
 ghost use lib.ListN.{length};
 ghost use Rattle.std.specs.Results.{Cases};
+ghost use Rattle.refusals.specs.Codes.{refusal-of};
 ghost use Rattle.places.specs.Families.{family};
 ghost use Rattle.rules.specs.Narrowing.{Narrowed};
-ghost use Rattle.rules.specs.Refusals.{narrow-refusal, refusal-of};
-use crate::refusal::Refusal;
+ghost use Rattle.rules.specs.Refusals.{narrow-refusal};
 use crate::rule::Rule;
 use places::PlaceSet;
+use refusals::Refusal;
 
 fn check_narrow<L: PlaceSet, R: Rule>(
     rule: &R,

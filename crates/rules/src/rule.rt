@@ -3,7 +3,7 @@ ghost use mathlib.Core.Path.{_≡_};
 ghost use mathlib.Core.Bool.{Bool, true};
 ghost use mathlib.Core.List.{List};
 ghost use Prim.Native.Nat.{ℕ, _+_, _*_, _≤_};
-ghost use lib.ListN.{length};
+ghost use lib.ListN.{length, getD};
 ghost use Rattle.std.specs.declared.option.Option.{Option};
 ghost use Rattle.std.specs.declared.option.Option.the-variants.{Some};
 ghost use Rattle.theory.specs.Lists.{member};
@@ -38,6 +38,10 @@ pub trait Rule {
     // Whether the scope names a job.
     fn involves(&self, job: u16) -> bool
         ensures value { λ r. ⌜ r ≡ member (scope (now (self .entry))) job ⌝ };
+
+    // The first job of the scope.
+    fn first_job(&self) -> u16
+        ensures value { λ r. ⌜ r ≡ getD (scope (now (self .entry))) 0 0 ⌝ };
 
     fn names_distinct(&self) -> Option<Progression>
         ensures value { λ r. ⌜ r ≡ names (now (self .entry)) ⌝ };

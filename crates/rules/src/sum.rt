@@ -65,6 +65,10 @@ pub impl Rule for Sum as SumRule {
         job == self.a || job == self.b || job == self.c
     }
 
+    fn first_job(&self) -> u16 {
+        self.job(0)
+    }
+
     fn names_distinct(&self) -> Option<Progression> {
         None
     }

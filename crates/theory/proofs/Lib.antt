@@ -1,1 +1,13 @@
+pub mod Bounds
+pub mod Closures
+pub mod Existence
+pub mod Forests
+pub mod Groups
+pub mod Moves
+pub mod Narrowing
+pub mod RowSupports
+pub mod SingleRows
 pub mod Sums
+pub mod Supports
+pub mod Trails
+pub mod Walks

@@ -1,13 +1,12 @@
 -- Laws of sums and counts below a bound.
--- Assumes nothing.
 use Prim.Native.Nat.{ℕ, zero, suc, _+_, _<_, _≤_}
-use mathlib.Core.Path.{_≡_, refl, sym, ap, ap₂, _∙_, subst}
+use mathlib.Core.Path.{_≡_, refl, sym, ap, ap₂, _∙_}
 use mathlib.Core.Bool.{Bool, true, false, _&&_, _||_, not, true≢false}
 use mathlib.Core.Logic.{_⊎_, inl, inr}
 use native.Mathlib.Decide.{ℕ-discrete}
 use native.Mathlib.Omega.{arith}
 use lib.Dec.{eqb}
-use borrow.Author.Tests.{eqb-true, eq-eqb, ne-eqb}
+use borrow.Author.Tests.{eq-eqb, ne-eqb}
 use Rattle.theory.specs.Counts.{bit, gate, sum, count, some}
 
 -- ---- a Bool is true or false
@@ -195,6 +194,23 @@ some-at t (suc n) e = go (some-at t n) (t n) refl e
     go r true d e = (n, omega arith, d)
     go r false d e = let (k, l, h) = r e in (k, omega arith, h)
 
+pub some-same : (s t : ℕ → Bool) (n : ℕ) → ((k : ℕ) → k < n → s k ≡ t k) → some s n ≡ some t n
+unfolding some
+some-same s t zero h = refl
+some-same s t (suc n) h = ap₂ _||_ (h n (omega arith)) (some-same s t n (λ k l. h k (omega arith)))
+
+-- a count that is not 0 has an element
+pub count-has : (t : ℕ → Bool) (n : ℕ) → 0 < count t n → (k : ℕ) × (k < n) × (t k ≡ true)
+count-has t n h = elim (cases (some t n)) [
+  | inl e ↦ some-at t n e
+  | inr e ↦ absurd (omega (arith, count-none t n (λ k l. elim (cases (t k)) [ inl d ↦ absurd (clash (some-has t n k l d) e) | inr d ↦ d ])))
+]
+
+pub count-all : (n : ℕ) → count (λ k. true) n ≡ n
+unfolding sum
+count-all zero = refl
+count-all (suc n) = omega (arith, count-all n)
+
 -- ---- a count by classes
 
 gate-zero : (b : Bool) → gate b 0 ≡ 0
@@ -219,9 +235,6 @@ gate-off : (b a t : Bool) → t ≡ false → gate b (bit (a && t)) ≡ 0
 gate-off true true t e = ap bit e
 gate-off true false t e = refl
 gate-off false a t e = refl
-
-gate-none : (b a t : Bool) → a ≡ false → gate b (bit (a && t)) ≡ bit (a && b)
-gate-none b a t e = simp (e, gate-zero)
 
 gate-here : (b a t : Bool) → t ≡ true → gate b (bit (a && t)) ≡ bit (a && b)
 gate-here b true t e = simp (e, gate-bit)

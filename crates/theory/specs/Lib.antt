@@ -1,3 +1,11 @@
+pub mod Assignments
 pub mod Counts
+pub mod Forest
 pub mod Lists
+pub mod Reach
+pub mod RowSupports
 pub mod Rows
+pub mod SingleRows
+pub mod Theorems
+pub mod Trail
+pub mod TrailTheorems

@@ -1,1 +1,3 @@
-// Mathematics of counts below a bound. No code runs from here.
+// Mathematics of assignments and of searches. No code runs from here: the contract of each function is a theorem.
+pub mod assignments;
+pub mod trail;

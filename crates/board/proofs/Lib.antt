@@ -1,0 +1,3 @@
+pub mod Settlings
+pub mod Trials
+pub mod Groupings

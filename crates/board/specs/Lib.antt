@@ -1,0 +1,3 @@
+pub mod Book
+pub mod Outcomes
+pub mod Moments

@@ -1,0 +1,5 @@
+pub mod Closes
+pub mod Cuts
+pub mod Ends
+pub mod Follows
+pub mod Walks

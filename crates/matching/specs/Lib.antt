@@ -1,0 +1,4 @@
+pub mod Tables
+pub mod Matched
+pub mod Searching
+pub mod Shifting

@@ -1,0 +1,5 @@
+// One rule of any of the three kinds.
+mod record;
+
+pub use record::RecordRule;
+pub use record::RuleRecord;
