@@ -1,4 +1,9 @@
-// Examples at the edges of the list kinds and of narrowing by one rule.
+// Examples at the edges of the list kinds, of narrowing by one rule, and of settling.
+#[cfg(test)]
+mod distinct_tests;
+#[cfg(test)]
+mod settling_tests;
+
 use places::CarrierRow;
 use places::NeedleList;
 use places::NeedleSet;
