@@ -117,40 +117,18 @@ fn steps_of_two_skip_jobs() -> Result<(), Fail> {
     )
 }
 
+// Whether a distinct rule is lawful for 256 jobs.
+fn is_lawful(first: u16, step: u16, count: u16) -> bool {
+    Distinct { first, step, count }.is_lawful(256)
+}
+
 #[test]
 fn large_numbers_are_unlawful() -> Result<(), Fail> {
-    let rule = Distinct {
-        first: 65_535,
-        step: 65_535,
-        count: 65_535,
-    };
-    check(!rule.is_lawful(256))?;
-    check(!rule.is_lawful(65_536))?;
-    check(
-        !Distinct {
-            first: 0,
-            step: 1,
-            count: 0,
-        }.is_lawful(256),
-    )?;
-    check(
-        !Distinct {
-            first: 0,
-            step: 0,
-            count: 1,
-        }.is_lawful(256),
-    )?;
-    check(Distinct {
-        first: 255,
-        step: 65_535,
-        count: 1,
-    }.is_lawful(256))?;
-    check(
-        !Distinct {
-            first: 256,
-            step: 1,
-            count: 1,
-        }.is_lawful(256),
-    )?;
-    check(!rule.involves(65_534))
+    check(!is_lawful(65_535, 65_535, 65_535))?;
+    check(!is_lawful(0, 1, 0))?;
+    check(!is_lawful(0, 0, 1))?;
+    check(!is_lawful(256, 1, 1))?;
+    check(!is_lawful(1, 1, 256))?;
+    check(is_lawful(0, 1, 256))?;
+    check(is_lawful(255, 65_535, 1))
 }

@@ -11,7 +11,6 @@ use crate::tables::SUM;
 use crate::tables::Tables;
 use crate::tables::WIDTH;
 use board::AtWork;
-use board::AtWorkStage;
 use board::Board;
 use board::FillingStage;
 use board::Settled;
