@@ -1,12 +1,12 @@
 -- A call looks at no more of its tables than the board holds of them; where they are shorter it is refused whatever they hold.
 use mathlib.Core.Bool.{Bool, true, false, not, _||_}
 use mathlib.Core.List.{List, _++_}
-use mathlib.Core.Logic.{_⊎_, inl, inr}
+use mathlib.Core.Logic.{inl, inr}
 use mathlib.Core.Path.{_≡_, refl, sym, ap, _∙_, subst}
 use Prim.Native.Nat.{ℕ, _≤_}
 use native.Mathlib.Omega.{arith}
 use lib.Dec.{ltb}
-use lib.ListN.{length, take, drop}
+use lib.ListN.{length, take}
 use Rattle.std.proofs.shelf.Lists.{length-append, take-append-le, drop-append-le}
 use Rattle.std.proofs.shelf.Tests.{cases-bool, or-left, or-parts}
 use Rattle.std.proofs.shelf.Ways.{tells}
@@ -21,12 +21,12 @@ use Rattle.rules.specs.Progressions.{jobs-of}
 use Rattle.rules.specs.declared.progression.Progression.{Progression}
 use Rattle.distinct.specs.Groups.{GroupIs}
 use Rattle.settling.specs.Consistency.{Settled, KeepsPlacings}
-use Rattle.board.specs.Book.{Held, wide-list, unlawful-rule, outside-cut, room-refusal, short-tables, held-refusal, cut-refusal, return-refusal, settle-refusal, group-refusal, named-at}
+use Rattle.board.specs.Book.{Held, wide-list, unlawful-rule, outside-cut, room-refusal, short-tables, cut-refusal, return-refusal, named-at}
 use Rattle.board.specs.Moments.{SettleSays, Stands}
 use Rattle.board.specs.declared.lengths.Lengths.{Lengths}
 use Rattle.history.specs.declared.event.Ask.{Ask}
 use Rattle.history.specs.declared.event.Ask.the-variants.{Cut as CutOf, Return, Trial, Group, Settle}
-use Rattle.history.specs.Calls.{Kinds, Said, done, yes-said, no-said, grouped, refused, succeeds, outcome, TrialSaid, GroupSaid, GroupWritten, AskSays, StandingAfter, GroupBy}
+use Rattle.history.specs.Calls.{Kinds, Said, done, yes-said, no-said, grouped, refused, succeeds, outcome, TrialSaid, GroupSaid, GroupWritten, AskSays}
 
 -- a check that came first
 pub stopped-first : (t : Bool) (rest : Option Code) → t ≡ true → then-check (fails-if t 10) rest ≡ Some (code 10 0)
@@ -163,12 +163,12 @@ written-whole limit f named done front front′ more e h = ap (λ xs. xs ++ more
 written-whole limit f named yes-said front front′ more e h = ap (λ xs. xs ++ more) h
 written-whole limit f named no-said front front′ more e h = ap (λ xs. xs ++ more) h
 written-whole limit f named (refused c) front front′ more e h = ap (λ xs. xs ++ more) h
-written-whole limit f named (grouped count d) front front′ more e (p, names, told, within, rest) =
+written-whole limit f named (grouped count d) front front′ more e (p, names, group, within, rest) =
     let le : count ≤ length front = omega arith in
     let room : count ≤ length (front′ ++ more) = simp length-append (omega arith) in (
       p,
       names,
-      subst (λ xs. GroupIs limit f (jobs-of p) xs d) (sym (take-append-le count front′ more within)) told,
+      subst (λ xs. GroupIs limit f (jobs-of p) xs d) (sym (take-append-le count front′ more within)) group,
       room,
       drop-append-le count front′ more within ∙ ap (λ xs. xs ++ more) rest ∙ sym (drop-append-le count front more le),
     )

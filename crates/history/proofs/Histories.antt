@@ -4,14 +4,15 @@ use mathlib.Core.List.{List, [], _∷_, _++_}
 use mathlib.Core.Path.{_≡_, refl, sym, ap, _∙_, subst}
 use Prim.Native.Nat.{ℕ, zero, suc, _<_}
 use native.Mathlib.Omega.{arith}
-use lib.ListN.{length, getD, set, take}
+use lib.ListN.{length, getD, set}
 use Rattle.std.proofs.shelf.Lists.{map-set, getD-map, set-getD}
 use Rattle.cuts.specs.declared.cut.Cut.{Cut}
 use Rattle.board.specs.declared.stage.Closed.{Closed}
+use Rattle.history.specs.declared.event.Ask.{Ask}
 use Rattle.history.specs.declared.event.Ask.the-variants.{Trial}
 use Rattle.history.specs.declared.event.Call.{Call}
 use Rattle.history.specs.declared.event.Event.{Event}
-use Rattle.history.specs.Calls.{Kinds, said, succeeds, stage-by, StandingAfter, GroupBy}
+use Rattle.history.specs.Calls.{Kinds, Said, said, succeeds, log-by, stage-by, StandingAfter, GroupBy}
 use Rattle.history.specs.History.{Setting, held-at, lent-to, CallSays, cuts-by, cuts-after, log-after, stage-after, cuts-from, log-from, stage-from, calls-of, answers-of, Moments, TrialsOut, none, kept, out, StandingFrom, GroupFrom}
 use Rattle.history.proofs.Uniqueness.{ask-one}
 
@@ -47,6 +48,15 @@ trial-cuts ks e job place p = cond-same _ _ _ (ap (λ a. cuts-by a ks) p)
 
 trial-stage : (st : Closed) (e : Event) (job place : ℕ) → e .call .ask ≡ Trial job place → stage-after st e ≡ st
 trial-stage st e job place p = cond-same _ _ _ (ap (λ a. stage-by a st) p)
+
+trial-log : (ks log : List Cut) (e : Event) (job place : ℕ) → e .call .ask ≡ Trial job place → log-after ks log e ≡ log
+trial-log ks log e job place p = cond-same _ _ _ (ap (λ a. log-by a (length ks) log) p)
+
+pub log-out : (ks log : List Cut) {h h′ : List Event} → TrialsOut h h′ → log-from ks log h′ ≡ log-from ks log h
+log-out ks log none = refl
+log-out ks log (kept {e} {h} {h′} t) = log-out (cuts-after ks e) (log-after ks log e) t
+log-out ks log (out {e} {h} {h′} job place p t) =
+    log-out ks log t ∙ ap (λ k. log-from k log h) (sym (trial-cuts ks e job place p)) ∙ ap (λ v. log-from (cuts-after ks e) v h) (sym (trial-log ks log e job place p))
 
 module _ {L R : Type 0} (K : Kinds L R) (s : Setting L R) where
   -- the first event's moment, and those of the rest
@@ -90,6 +100,32 @@ module _ {L R : Type 0} (K : Kinds L R) (s : Setting L R) where
       let d = trial-stage st e job place p in
       let r = trials-out ks st t (subst (λ k. Moments K s k h) c (later-moments ks e h m)) in
       (r .0, r .1 ∙ ap (λ k. cuts-from k h) (sym c), r .2 ∙ ap (λ k. stage-from k h) (sym d))
+
+  -- a trial writes neither standing lists nor groups
+  trial-stood : (t : Bool) (ks : List Cut) (a : Ask) (job place : ℕ) (before after : List L) → a ≡ Trial job place
+      → StandingAfter t K (held-at s ks) (s .opened) (s .rules) ks a before after → after ≡ before
+  trial-stood true ks a job place before after e p = subst (λ v. StandingAfter true K (held-at s ks) (s .opened) (s .rules) ks v before after → after ≡ before) (sym e) (λ p. p) p
+  trial-stood false ks a job place before after e p = p
+
+  trial-grouped : (ks : List Cut) (a : Ask) (x : Said) (job place : ℕ) (before after : List ℕ) → a ≡ Trial job place
+      → GroupBy K (held-at s ks) (s .opened) (s .rules) ks a x before after → after ≡ before
+  trial-grouped ks a x job place before after e = subst (λ v. GroupBy K (held-at s ks) (s .opened) (s .rules) ks v x before after → after ≡ before) (sym e) (λ p. p)
+
+  pub standing-out : (ks : List Cut) {h h′ : List Event} (before after : List L) → TrialsOut h h′ → StandingFrom K s ks h before after → StandingFrom K s ks h′ before after
+  standing-out ks before after none p = p
+  standing-out ks before after (kept {e} {h} {h′} t) p = (p .0, p .1, standing-out (cuts-after ks e) (p .0) after t (p .2))
+  standing-out ks before after (out {e} {h} {h′} job place q t) p =
+      let same : p .0 ≡ before = trial-stood (succeeds (said (e .answer))) ks (e .call .ask) job place before (p .0) q (p .1) in
+      standing-out ks before after t
+      (subst (λ k. StandingFrom K s k h before after) (trial-cuts ks e job place q) (subst (λ v. StandingFrom K s (cuts-after ks e) h v after) same (p .2)))
+
+  pub group-out : (ks : List Cut) {h h′ : List Event} (before after : List ℕ) → TrialsOut h h′ → GroupFrom K s ks h before after → GroupFrom K s ks h′ before after
+  group-out ks before after none p = p
+  group-out ks before after (kept {e} {h} {h′} t) p = (p .0, p .1, group-out (cuts-after ks e) (p .0) after t (p .2))
+  group-out ks before after (out {e} {h} {h′} job place q t) p =
+      let same : p .0 ≡ before = trial-grouped ks (e .call .ask) (said (e .answer)) job place before (p .0) q (p .1) in
+      group-out ks before after t
+      (subst (λ k. GroupFrom K s k h before after) (trial-cuts ks e job place q) (subst (λ v. GroupFrom K s (cuts-after ks e) h v after) same (p .2)))
 
   -- the calls determine the answers
   pub same-answers : (ks : List Cut) (h h′ : List Event) → Moments K s ks h → Moments K s ks h′ → calls-of h ≡ calls-of h′ → answers-of h ≡ answers-of h′

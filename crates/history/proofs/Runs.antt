@@ -18,7 +18,7 @@ use Rattle.history.specs.declared.event.Event.{Event}
 use Rattle.history.specs.Calls.{Kinds, said, succeeds, stage-by, StandingAfter}
 use Rattle.history.specs.History.{Setting, setting, held-at, lent-to, current-by, cuts-by, cuts-of, stage-of, log-after, stage-after, log-from, calls-of, Lawful, StandingFrom, GroupFrom, Stepped}
 use Rattle.history.specs.Runs.{cuts-at, Run}
-use Rattle.history.proofs.Histories.{cuts-push, log-push, stage-push, same-calls, moments-push, standing-push, group-push, trials-out, same-answers}
+use Rattle.history.proofs.Histories.{cuts-push, log-push, stage-push, same-calls, moments-push, standing-push, group-push, trials-out, log-out, standing-out, group-out, same-answers}
 use Rattle.history.proofs.Moments.{book-refuses, refused-by-book, settling-right, trial-right, group-right, stands-here}
 
 not-settled : AtWork ≡ IsSettled → ⊥
@@ -110,6 +110,8 @@ module _ {L R : Type 0} (K : Kinds L R) (s : Setting L R) (asked events : List E
       let lawful : Lawful K s events = subst (Lawful K s) t (r .answers) in
       let k = r .counted ∙ ap cuts-of t in
       let st-is = r .staged ∙ ap stage-of t in
+      let stood : StandingFrom K s [] events lists₀ lists = subst (λ v. StandingFrom K s [] v lists₀ lists) t (r .standing) in
+      let groups : GroupFrom K s [] events table₀ table = subst (λ v. GroupFrom K s [] v table₀ table) t (r .grouping) in
       record {
         calls = r .calls;
         number = sym (length-take-le cuts log (r .room)) ∙ ap length k;
@@ -124,12 +126,21 @@ module _ {L R : Type 0} (K : Kinds L R) (s : Setting L R) (asked events : List E
         settlings = λ j d lt p. settling-right K s (cuts-at events j) (lent-to (getD events j d .call .lent) (s .tables)) (said (getD events j d .answer)) (getD events j d .call .ask) p (lawful j d lt);
         trials-right = λ j d lt job place p. trial-right K s (cuts-at events j) (lent-to (getD events j d .call .lent) (s .tables)) (said (getD events j d .answer)) (getD events j d .call .ask) job place p (lawful j d lt);
         groups = λ j d lt rule p. group-right K s (cuts-at events j) (lent-to (getD events j d .call .lent) (s .tables)) (said (getD events j d .answer)) (getD events j d .call .ask) rule p (lawful j d lt);
-        standing = subst (λ v. StandingFrom K s [] v lists₀ lists) t (r .standing);
+        standing = stood;
         settled = λ p. subst (λ v. StandsAt K s v lists) (ap cuts-of t) (r .stands (st-is ∙ p)) .settled;
         placings = λ p. subst (λ v. StandsAt K s v lists) (ap cuts-of t) (r .stands (st-is ∙ p)) .placings;
         past = r .past;
-        grouping = subst (λ v. GroupFrom K s [] v table₀ table) t (r .grouping);
-        trials = λ h′ w. trials-out K s [] AtWork w lawful;
+        grouping = groups;
+        trials = λ h′ w.
+            let o = trials-out K s [] AtWork w lawful in
+            record {
+              lawful = o .0;
+              counted = o .1;
+              logged = log-out [] log₀ w;
+              staged = o .2;
+              standing = standing-out K s [] lists₀ lists w stood;
+              grouping = group-out K s [] table₀ table w groups;
+            };
         determined = λ h′ m p. same-answers K s [] h′ events m lawful p;
       }
 

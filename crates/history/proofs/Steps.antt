@@ -1,7 +1,7 @@
--- One call on the fronts that it is lent, told of the whole tables.
+-- One call on the fronts that it is lent, as the whole tables see it.
 use mathlib.Core.Bool.{Bool, true, false, cond}
 use mathlib.Core.List.{List, [], _∷_, _++_}
-use mathlib.Core.Logic.{_⊎_, inl, inr}
+use mathlib.Core.Logic.{inl, inr}
 use mathlib.Core.Path.{_≡_, refl, sym, ap, _∙_, subst}
 use Prim.Native.Nat.{ℕ, _+_, _<_, _≤_, min}
 use native.Mathlib.Omega.{arith}
@@ -9,8 +9,6 @@ use lib.ListN.{length, set, take, drop}
 use Rattle.std.proofs.shelf.Lists.{length-set, length-take, length-take-le, set-append-left, take-append-drop, take-more-set, take-take}
 use Rattle.std.proofs.shelf.Tests.{cases-bool, cond-true, cond-false}
 use Rattle.std.proofs.shelf.Ways.{tells}
-use Rattle.places.specs.Families.{family}
-use Rattle.cuts.specs.Current.{current}
 use Rattle.cuts.specs.declared.cut.Cut.{Cut}
 use Rattle.board.specs.Book.{Held, short-tables, cut-refusal, return-refusal, named-at}
 use Rattle.board.specs.Moments.{current-lists}
@@ -21,7 +19,7 @@ use Rattle.board.proofs.Trials.{not-short}
 use Rattle.history.specs.declared.event.Answer.{Answer}
 use Rattle.history.specs.declared.event.Ask.{Ask}
 use Rattle.history.specs.declared.event.Ask.the-variants.{Cut as CutOf, Return, Trial, Group, Settle}
-use Rattle.history.specs.Calls.{Kinds, Said, said, done, yes-said, no-said, grouped, refused, succeeds, outcome, AskSays, Asked, log-by, StandingBy, StandingAfter, GroupWritten, GroupBy}
+use Rattle.history.specs.Calls.{Kinds, Said, said, done, yes-said, no-said, grouped, refused, succeeds, outcome, AskSays, Asked, log-by, StandingBy, StandingAfter, GroupBy}
 use Rattle.history.specs.History.{Setting, setting, held-at, lent-to, CallSays, cuts-by, Stepped}
 use Rattle.history.proofs.Fronts.{SameFronts, says-fronts, settle-passed, group-passed, stands-same, written-same, stands-whole, written-whole}
 

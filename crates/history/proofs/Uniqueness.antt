@@ -1,7 +1,7 @@
 -- A call has one answer.
 use mathlib.Core.Bool.{Bool, cond}
 use mathlib.Core.List.{List, [], _∷_}
-use mathlib.Core.Logic.{_⊎_, inl, inr}
+use mathlib.Core.Logic.{inl, inr}
 use mathlib.Core.Path.{_≡_, refl, sym, ap, _∙_, subst}
 use Prim.Native.Nat.{ℕ, zero, suc, _<_}
 use native.Mathlib.Omega.{arith}
@@ -88,21 +88,21 @@ group-one w f scope jobs jobs′ d d′ p q =
 
 data GroupWay (limit : ℕ) (f : Family) (named : Option Progression) (checks : Option Code) : Said → Type 0 where
   group-stopped : (c : Code) → checks ≡ Some c → GroupWay limit f named checks (refused c)
-  told : (count d : ℕ) (p : Progression) (jobs : List ℕ) → checks ≡ None → named ≡ Some p → length jobs ≡ count → GroupIs limit f (jobs-of p) jobs d
+  found : (count d : ℕ) (p : Progression) (jobs : List ℕ) → checks ≡ None → named ≡ Some p → length jobs ≡ count → GroupIs limit f (jobs-of p) jobs d
       → GroupWay limit f named checks (grouped count d)
 
 group-way : (limit : ℕ) (f : Family) (named : Option Progression) (checks : Option Code) (x : Said) → GroupSaid limit f named checks x → GroupWay limit f named checks x
 group-way limit f named checks done h = absurd h
 group-way limit f named checks yes-said h = absurd h
 group-way limit f named checks no-said h = absurd h
-group-way limit f named checks (grouped count d) (e, (p, names, (jobs, size, group))) = told count d p jobs e names size group
+group-way limit f named checks (grouped count d) (e, (p, names, (jobs, size, group))) = found count d p jobs e names size group
 group-way limit f named checks (refused c) h = group-stopped c h
 
 group-answer : (limit : ℕ) (f : Family) (named : Option Progression) (checks : Option Code) (x y : Said) → GroupWay limit f named checks x → GroupWay limit f named checks y → x ≡ y
 group-answer limit f named checks x y (group-stopped c p) (group-stopped c′ q) = cc
-group-answer limit f named checks x y (group-stopped c p) (told count d r jobs e names size g) = let z : _≡_ {A = ℕ} 0 1 = cc in absurd (omega arith)
-group-answer limit f named checks x y (told count d r jobs e names size g) (group-stopped c p) = let z : _≡_ {A = ℕ} 0 1 = cc in absurd (omega arith)
-group-answer limit f named checks x y (told count d r jobs e names size g) (told count′ d′ r′ jobs′ e′ names′ size′ g′) =
+group-answer limit f named checks x y (group-stopped c p) (found count d r jobs e names size g) = let z : _≡_ {A = ℕ} 0 1 = cc in absurd (omega arith)
+group-answer limit f named checks x y (found count d r jobs e names size g) (group-stopped c p) = let z : _≡_ {A = ℕ} 0 1 = cc in absurd (omega arith)
+group-answer limit f named checks x y (found count d r jobs e names size g) (found count′ d′ r′ jobs′ e′ names′ size′ g′) =
     let same : r′ ≡ r = cc in
     let u = group-one limit f (jobs-of r) jobs jobs′ d d′ g (subst (λ v. GroupIs limit f (jobs-of v) jobs′ d′) same g′) in
     ap (λ v. grouped v d) (sym size ∙ ap length (u .0) ∙ size′) ∙ ap (λ v. grouped count′ v) (u .1)

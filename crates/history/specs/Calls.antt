@@ -1,6 +1,6 @@
 -- What one call on a closed board says, at the cuts that are counted then, and what it leaves.
 use mathlib.Core.Bool.{Bool, true, false, cond}
-use mathlib.Core.List.{List, [], _∷_, _++_}
+use mathlib.Core.List.{List}
 use mathlib.Core.Path.{_≡_}
 use Prim.Native.Nat.{ℕ, _+_, _≤_}
 use lib.ListN.{length, set, take, drop}
@@ -12,7 +12,6 @@ use Rattle.cuts.specs.declared.cut.Cut.{Cut}
 use Rattle.rules.specs.Progressions.{jobs-of}
 use Rattle.rules.specs.declared.progression.Progression.{Progression}
 use Rattle.distinct.specs.Groups.{GroupIs}
-use Rattle.distinct.specs.declared.group.Deficiency.{Deficiency}
 use Rattle.settling.specs.Consistency.{Complete}
 use Rattle.board.specs.Book.{Held, cut-refusal, return-refusal, settle-refusal, trial-refusal, group-refusal, named-at}
 use Rattle.board.specs.Moments.{current-lists, SettleSays, Stands}

@@ -1,27 +1,24 @@
 -- The law of a day: what the calls on a closed board and their answers say of its cuts, log, stage, standing lists and group table.
-use mathlib.Core.Bool.{Bool, true, cond}
+use mathlib.Core.Bool.{cond}
 use mathlib.Core.List.{List, [], _∷_, _++_, map}
-use mathlib.Core.Logic.{_⊎_}
 use mathlib.Core.Path.{_≡_}
 use Prim.Native.Nat.{ℕ, _<_, _≤_, min}
-use lib.ListN.{length, getD, take, drop}
+use lib.ListN.{length, getD, take}
 use Rattle.std.specs.declared.option.Option.{Option}
-use Rattle.std.specs.declared.option.Option.the-variants.{Some, None}
-use Rattle.refusals.specs.Codes.{Code, code}
+use Rattle.refusals.specs.Codes.{Code}
 use Rattle.places.specs.Families.{Family, family}
 use Rattle.cuts.specs.Current.{current}
 use Rattle.cuts.specs.declared.cut.Cut.{Cut}
-use Rattle.settling.specs.Consistency.{Settled, Complete, ShortAt, KeepsPlacings}
 use Rattle.board.specs.Book.{Held, cut-refusal, return-refusal, settle-refusal, trial-refusal, group-refusal}
 use Rattle.board.specs.Outcomes.{lengths}
 use Rattle.board.specs.declared.lengths.Lengths.{Lengths}
 use Rattle.board.specs.declared.stage.Closed.{Closed}
-use Rattle.board.specs.declared.stage.Closed.the-variants.{AtWork, Settled as IsSettled}
+use Rattle.board.specs.declared.stage.Closed.the-variants.{AtWork}
 use Rattle.history.specs.declared.event.Ask.{Ask}
 use Rattle.history.specs.declared.event.Ask.the-variants.{Cut as CutOf, Return, Trial, Group, Settle}
 use Rattle.history.specs.declared.event.Call.{Call}
 use Rattle.history.specs.declared.event.Event.{Event}
-use Rattle.history.specs.Calls.{Kinds, Said, said, done, refused, succeeds, AskSays, log-by, stage-by, StandingAfter, GroupBy}
+use Rattle.history.specs.Calls.{Kinds, Said, said, refused, succeeds, AskSays, log-by, stage-by, StandingAfter, GroupBy}
 
 -- what a day does not change: the number of jobs, the bed width, the opened table, the accepted rules in order, and how long the
 -- whole tables are

@@ -57,6 +57,15 @@ abbrev pub GroupsRight : {L R : Type 0} → Kinds L R → Setting L R → List E
 GroupsRight K s h = (i : ℕ) (d : Event) → i < length h → (rule : ℕ) → getD h i d .call .ask ≡ Group rule
     → GroupSaid (K .limit) (current-by K s (cuts-at h i)) (named-at (K .names) (s .rules) rule) (book-at K s h i (getD h i d)) (said (getD h i d .answer))
 
+-- another history h′ is lawful too, and leaves the same cuts, log, stage, standing lists and group table
+pub record SameDay {L R : Type 0} (K : Kinds L R) (s : Setting L R) (h h′ : List Event) (log : List Cut) (lists lists′ : List L) (table table′ : List ℕ) : Type 0 where
+  pub lawful : Lawful K s h′
+  pub counted : cuts-of h′ ≡ cuts-of h
+  pub logged : log-from [] log h′ ≡ log-from [] log h
+  pub staged : stage-of h′ ≡ stage-of h
+  pub standing : StandingFrom K s [] h′ lists lists′
+  pub grouping : GroupFrom K s [] h′ table table′
+
 -- The calls `asked` were carried out, and h has them with their answers.
 pub record Run {L R : Type 0} (K : Kinds L R) (s : Setting L R) (asked h : List Event) (cuts : ℕ) (log log′ : List Cut) (stage : Closed) (lists lists′ : List L) (table table′ : List ℕ) : Type 0 where
   -- only answers are written
@@ -79,6 +88,6 @@ pub record Run {L R : Type 0} (K : Kinds L R) (s : Setting L R) (asked h : List 
   pub past : drop (s .jobs) lists′ ≡ drop (s .jobs) lists
   pub grouping : GroupFrom K s [] h table table′
   -- trials can be left out
-  pub trials : (h′ : List Event) → TrialsOut h h′ → Lawful K s h′ × (cuts-of h′ ≡ cuts-of h) × (stage-of h′ ≡ stage-of h)
+  pub trials : (h′ : List Event) → TrialsOut h h′ → SameDay K s h h′ log lists lists′ table table′
   -- the calls determine the answers
   pub determined : (h′ : List Event) → Lawful K s h′ → calls-of h′ ≡ calls-of h → answers-of h′ ≡ answers-of h

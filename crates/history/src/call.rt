@@ -1,35 +1,25 @@
 // One call of a day, on the fronts of the tables that it is lent.
 ghost use mathlib.Core.Path.{_≡_};
-ghost use Prim.Native.Nat.{_≤_};
+ghost use Prim.Native.Nat.{_≤_, min};
 ghost use lib.ListN.{length, take};
 ghost use Rattle.board.specs.Outcomes.{lengths, Same};
 ghost use Rattle.history.specs.Calls.{kinds};
-ghost use Rattle.history.specs.History.{lent-to, setting, Stepped};
+ghost use Rattle.history.specs.History.{setting, Stepped};
 use crate::ask::ask;
 use crate::event::Answer;
 use crate::event::Call;
 use board::Board;
 use board::Closed;
-use board::Lengths;
 use cuts::Cut;
 use places::PlaceSet;
 use rules::Rule;
 use settling::WakeUp;
 
-// As much of each table as is asked for; the whole table where it is shorter.
-fn fronts(lent: &Lengths, tables: &Lengths) -> Lengths
-    ensures { λ r. ⌜ r ≡ lent-to (now (lent .entry)) (now (tables .entry)) ⌝ }
+// As much of a table as is asked for; the whole table where it is shorter.
+pub fn front(lent: usize, table: usize) -> usize
+    ensures { λ r. ⌜ r ≡ min lent table ⌝ }
 {
-    Lengths {
-        opened: lent.opened.min(tables.opened),
-        rules: lent.rules.min(tables.rules),
-        log: lent.log.min(tables.log),
-        standing: lent.standing.min(tables.standing),
-        group: lent.group.min(tables.group),
-        working: lent.working.min(tables.working),
-        numbers: lent.numbers.min(tables.numbers),
-        wakes: lent.wakes.min(tables.wakes),
-    }
+    lent.min(table)
 }
 
 // The board after the call, and the answer.
@@ -50,26 +40,14 @@ pub fn call<L: PlaceSet + Copy, R: Rule>(
     ensures same { λ r. ⌜ Same (board .numbers) (board .numbers .rules) (r .0 .numbers .cuts) (r .0 .numbers) ⌝ }
     ensures step { λ r. ⌜ Stepped (kinds (L·PlaceSet .has) (L·PlaceSet .limit) (R·Rule .scope) (R·Rule .admits) (R·Rule .lawful) (R·Rule .names)) (setting (board .numbers .n) (board .numbers .w) (now (opened .entry)) (take (board .numbers .rules) (now (rules .entry))) (lengths (length (now (opened .entry))) (length (now (rules .entry))) (length (now (log .entry))) (length (now (standing .entry))) (length (now (group .entry))) (length (now (working .entry))) (length (now (numbers .entry))) (length (now («wake_ups» .entry))))) (take (board .numbers .cuts) (now (log .entry))) (now (log .entry)) (board .stage) (now (standing .entry)) (now (group .entry)) (record { call = call; answer = r .1 }) (r .0 .numbers .cuts) (now (log .exit)) (r .0 .stage) (now (standing .exit)) (now (group .exit)) ⌝ }
 {
-    let tables = Lengths {
-        opened: opened.len(),
-        rules: rules.len(),
-        log: log.len(),
-        standing: standing.len(),
-        group: group.len(),
-        working: working.len(),
-        numbers: numbers.len(),
-        wakes: wake_ups.len(),
-    };
-    let Lengths {
-        opened: opened_end,
-        rules: rules_end,
-        log: log_end,
-        standing: standing_end,
-        group: group_end,
-        working: working_end,
-        numbers: numbers_end,
-        wakes: wakes_end,
-    } = fronts(&call.lent, &tables);
+    let opened_end = front(call.lent.opened, opened.len());
+    let rules_end = front(call.lent.rules, rules.len());
+    let log_end = front(call.lent.log, log.len());
+    let standing_end = front(call.lent.standing, standing.len());
+    let group_end = front(call.lent.group, group.len());
+    let working_end = front(call.lent.working, working.len());
+    let numbers_end = front(call.lent.numbers, numbers.len());
+    let wakes_end = front(call.lent.wakes, wake_ups.len());
     ask(
         board,
         &opened[0..opened_end],

@@ -6,6 +6,7 @@ ghost use Rattle.board.specs.Outcomes.{Same};
 ghost use Rattle.history.specs.Calls.{outcome, said};
 ghost use Rattle.history.specs.Filling.{accepted-of, Filled, Offered};
 ghost use Rattle.refusals.specs.Codes.{refusal-of};
+use crate::call::front;
 use crate::event::Answer;
 use board::Board;
 use board::Filling;
@@ -37,7 +38,7 @@ fn make_offer<R: Rule + Copy>(board: &mut Board<Filling>, rules: &mut [R], offer
     ensures offered { λ _. ⌜ Offered (R·Rule .lawful) (now (board .entry) .numbers .n) (now (board .entry) .numbers .w) (take (now (board .entry) .numbers .rules) (now (rules .entry))) (now (rules .entry)) (now (offer .entry)) (now (offer .exit)) (now (board .exit) .numbers .rules) (now (rules .exit)) ⌝ }
 {
     let rule = offer.rule;
-    let lent = offer.lent.min(rules.len());
+    let lent = front(offer.lent, rules.len());
     offer.answer = answer_to(board.add_rule(&mut rules[0..lent], rule));
 }
 

@@ -1,5 +1,5 @@
 use borrow.Author.Needs.{needs}
-use mathlib.Core.Path.{_≡_, refl, sym, subst}
+use mathlib.Core.Path.{refl}
 use lib.ListN.{length}
 use Rattle.board.specs.Book.{held-by}
 use Rattle.board.specs.Outcomes.{lengths}

@@ -3,7 +3,6 @@ use Prim.Native.Nat.{_<_, _≤_}
 use native.Mathlib.Omega.{arith}
 use lib.ListN.{length, take}
 use Rattle.board.specs.Outcomes.{lengths, Same}
-use Rattle.board.specs.declared.lengths.Lengths.{Lengths}
 use Rattle.history.specs.Calls.{kinds}
 use Rattle.history.specs.History.{setting}
 use Rattle.history.specs.Runs.{Run}
