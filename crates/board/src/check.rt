@@ -19,7 +19,7 @@ use rules::check_rules;
 
 impl Numbers {
     // Whether opened lists, rules, log or working memory are too short.
-    pub fn are_short(&self, limit: usize, tables: &Lengths) -> bool
+    pub(crate) fn are_short(&self, limit: usize, tables: &Lengths) -> bool
         requires { ⌜ limit ≤ 2048 ⌝ }
         ensures { λ r. ⌜ r ≡ short-tables limit (held-by (now (self .entry))) (now (tables .entry)) ⌝ }
     {
@@ -33,7 +33,7 @@ impl Numbers {
     }
 
     // The first lists, rules and cuts of the tables are those of this board.
-    pub fn check_held<L: PlaceSet, R: Rule>(
+    pub(crate) fn check_held<L: PlaceSet, R: Rule>(
         &self,
         opened: &[L],
         rules: &[R],

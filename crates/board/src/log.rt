@@ -17,7 +17,7 @@ use refusals::Refusal;
 
 impl Numbers {
     // The job and the place given are the board's, and the log has room for one more cut.
-    pub fn check_room(&self, log: usize, job: u16, place: u16) -> Result<(), Refusal>
+    pub(crate) fn check_room(&self, log: usize, job: u16, place: u16) -> Result<(), Refusal>
         ensures refusal { λ r. ⌜ refusal-of r ≡ room-refusal (held-by (now (self .entry))) log job place ⌝ }
         ensures room { λ r. ⌜ Cases r (λ _. (now (self .entry) .cuts < log) × (now (self .entry) .cuts < 1024) × (job < now (self .entry) .n)) (λ _. Unit {0}) ⌝ }
     {

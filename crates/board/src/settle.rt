@@ -26,7 +26,7 @@ use settling::WakeUp;
 use settling::settle;
 
 // Writes the opened lists with the cuts carried out to `lists`, and settles them. Answers with the lowest job left no place.
-pub fn settle_current<L: PlaceSet + Copy, R: Rule>(
+pub(crate) fn settle_current<L: PlaceSet + Copy, R: Rule>(
     opened: &[L],
     rules: &[R],
     cuts: &[Cut],
