@@ -4,6 +4,9 @@ use board::Board;
 use board::Filling;
 use board::FillingStage;
 use places::CarrierRow;
+use places::NeedleList;
+use places::NeedleSet;
+use places::NoListDebug;
 use places::RowSet;
 use records::RecordRule;
 use records::RuleRecord;
@@ -39,6 +42,25 @@ fn bed_widths() -> Result<(), Fail> {
     check_eq(opening(1, 0, 0), Some(Refusal::BedWidth))?;
     check_eq(opening(1, 64, 1), None)?;
     check_eq(opening(1, 65, 0), Some(Refusal::BedWidth))
+}
+
+// The refusal of opening a board of one job on needle lists.
+fn opening_by_needles(w: u16, opened: &[NeedleList]) -> Option<Refusal> {
+    match Board::open(1, w, opened) {
+        Ok(_) => None,
+        Err(refusal) => Some(refusal),
+    }
+}
+
+#[test]
+fn bed_widths_of_needles() -> Result<(), Fail> {
+    let opened = [NeedleList::new(&[2047])?];
+    check_eq(opening_by_needles(2048, &opened), None)?;
+    check_eq(opening_by_needles(2049, &opened), Some(Refusal::BedWidth))?;
+    check_eq(
+        opening_by_needles(2047, &opened),
+        Some(Refusal::PlaceTooLarge(0)),
+    )
 }
 
 #[test]
