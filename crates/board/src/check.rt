@@ -34,8 +34,8 @@ impl Numbers {
         log: &[Cut],
     ) -> Result<(), Refusal>
         requires { (self.now.n ≤ length opened.now) × (self.now.rules ≤ length rules.now) × (self.now.cuts ≤ length log.now) }
-        ensures refusal { refusal_of result ≡ held_refusal L.PlaceSet.has L.PlaceSet.limit R.Rule.lawful (held_by self.now) opened.now rules.now log.now }
-        ensures lawful { OnOk result (All (λ x. R.Rule.lawful x self.now.n ≡ true) (take self.now.rules rules.now)) }
+        ensures refusal { refusal_of result ≡ held_refusal L.has L.limit R.lawful (held_by self.now) opened.now rules.now log.now }
+        ensures lawful { OnOk result (All (λ x. R.lawful x self.now.n ≡ true) (take self.now.rules rules.now)) }
     {
         let n = self.n as usize;
         let held = self.rules;

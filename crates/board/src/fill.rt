@@ -14,7 +14,7 @@ use rules::{Rule, check_offered, check_rules};
 
 // A board can have n jobs and bed width w, and a table of so many lists has room for its jobs.
 pub fn check_size<L: PlaceSet>(n: u16, w: u16, lists: usize) -> Result<(), Refusal>
-    ensures refusal { refusal_of result ≡ size_refusal limit n w lists }
+    ensures refusal { refusal_of result ≡ size_refusal L.limit n w lists }
     ensures few { OnOk result ((n ≤ 256) × (n ≤ lists)) }
 {
     if n == 0 || n > 256 {
@@ -30,7 +30,7 @@ pub fn check_size<L: PlaceSet>(n: u16, w: u16, lists: usize) -> Result<(), Refus
 }
 
 fn check_open<L: PlaceSet>(n: u16, w: u16, opened: &[L]) -> Result<(), Refusal>
-    ensures refusal { refusal_of result ≡ open_refusal has limit n w opened.now }
+    ensures refusal { refusal_of result ≡ open_refusal L.has L.limit n w opened.now }
     ensures few { OnOk result (n ≤ 256) }
 {
     check_size::<L>(n, w, opened.len())?;
@@ -41,7 +41,7 @@ fn check_open<L: PlaceSet>(n: u16, w: u16, opened: &[L]) -> Result<(), Refusal>
 impl Board<Filling> {
     // A board of n jobs and bed width w, without rules yet.
     pub fn open<L: PlaceSet>(n: u16, w: u16, opened: &[L]) -> Result<Board<Filling>, Refusal>
-        ensures refusal { refusal_of result ≡ open_refusal has limit n w opened.now }
+        ensures refusal { refusal_of result ≡ open_refusal L.has L.limit n w opened.now }
         ensures board { IfOk result (λ b. Opened n w b.numbers) }
     {
         check_open(n, w, opened)?;
@@ -59,7 +59,7 @@ impl Board<Filling> {
 
 impl Numbers {
     fn check_add<R: Rule>(&self, rules: &[R], rule: &R) -> Result<(), Refusal>
-        ensures refusal { refusal_of result ≡ add_refusal lawful (held_by self.now) rules.now rule.now }
+        ensures refusal { refusal_of result ≡ add_refusal R.lawful (held_by self.now) rules.now rule.now }
         ensures room { OnOk result ((self.now.rules < length rules.now) × (self.now.rules < 64)) }
     {
         let held = self.rules;
@@ -74,7 +74,7 @@ impl Numbers {
     }
 
     fn check_close<L: PlaceSet, R: Rule>(&self, opened: &[L], rules: &[R]) -> Result<(), Refusal>
-        ensures { refusal_of result ≡ close_refusal L.PlaceSet.has L.PlaceSet.limit R.Rule.lawful (held_by self.now) opened.now rules.now }
+        ensures { refusal_of result ≡ close_refusal L.has L.limit R.lawful (held_by self.now) opened.now rules.now }
     {
         let n = self.n as usize;
         let held = self.rules;
@@ -89,8 +89,8 @@ impl Numbers {
 impl<S: Stage + Drop> Board<S> {
     // One rule more, stored after those held.
     pub fn add_rule<R: Rule + Copy>(&mut self, rules: &mut [R], rule: R) -> Result<(), Refusal>
-        requires { S.Stage.fills self.old.stage }
-        ensures refusal { refusal_of result ≡ add_refusal R.Rule.lawful (held_by self.old.numbers) rules.old rule }
+        requires { S.fills self.old.stage }
+        ensures refusal { refusal_of result ≡ add_refusal R.lawful (held_by self.old.numbers) rules.old rule }
         ensures stage { self.new.stage ≡ self.old.stage }
         ensures rules { MatchResult result (λ _. Same self.old.numbers (self.old.numbers.rules + 1) self.old.numbers.cuts self.new.numbers × (rules.new ≡ slice_set rules.old self.old.numbers.rules rule)) (λ _. Same self.old.numbers self.old.numbers.rules self.old.numbers.cuts self.new.numbers × (rules.new ≡ rules.old)) }
     {
@@ -112,8 +112,8 @@ impl<S: Stage + Drop> Board<S> {
         opened: &[L],
         rules: &[R],
     ) -> Result<Board<AtWork>, Rejected<Board<S>>>
-        requires { S.Stage.fills self.stage }
-        ensures refusal { refusal_back result ≡ close_refusal L.PlaceSet.has L.PlaceSet.limit R.Rule.lawful (held_by self.numbers) opened.now rules.now }
+        requires { S.fills self.stage }
+        ensures refusal { refusal_back result ≡ close_refusal L.has L.limit R.lawful (held_by self.numbers) opened.now rules.now }
         ensures board { MatchResult result (λ b. Same self.numbers self.numbers.rules 0 b.numbers) (λ e. e.board ≡ self) }
     {
         match self.numbers.check_close(opened, rules) {

@@ -21,7 +21,7 @@ use settling::WakeUp;
 
 // The jobs of the distinct rule that a rule names, if there is such a rule.
 fn named_by<R: Rule>(rules: &[R], rule: usize) -> Option<Progression>
-    ensures { result ≡ named_at names rules.now rule }
+    ensures { result ≡ named_at R.names rules.now rule }
 {
     if rule >= rules.len() {
         return None;
@@ -39,8 +39,8 @@ impl Numbers {
         rule: usize,
     ) -> Result<Progression, Refusal>
         requires { (tables.now.opened ≡ length opened.now) × (tables.now.rules ≡ length rules.now) × (tables.now.log ≡ length log.now) }
-        ensures refusal { refusal_of result ≡ group_refusal L.PlaceSet.has L.PlaceSet.limit R.Rule.lawful R.Rule.names (held_by self.now) opened.now rules.now log.now tables.now rule }
-        ensures ready { IfOk result (λ d. Ready L.PlaceSet.limit R.Rule.lawful (held_by self.now) rules.now tables.now × (self.now.n ≤ tables.now.group) × (named_at R.Rule.names (take self.now.rules rules.now) rule ≡ Some d)) }
+        ensures refusal { refusal_of result ≡ group_refusal L.has L.limit R.lawful R.names (held_by self.now) opened.now rules.now log.now tables.now rule }
+        ensures ready { IfOk result (λ d. Ready L.limit R.lawful (held_by self.now) rules.now tables.now × (self.now.n ≤ tables.now.group) × (named_at R.names (take self.now.rules rules.now) rule ≡ Some d)) }
     {
         if self.are_short(L::width_limit(), tables) || tables.group < self.n as usize {
             return Err(Refusal::TableTooShort);
@@ -65,8 +65,8 @@ impl Numbers {
     ) -> Deficiency
         requires scope { Scope self.now.n (jobs_of jobs.now) }
         requires tables { (self.now.n ≤ length opened.now) × (self.now.cuts ≤ length log.now) × (self.now.n ≤ length working.old) × (self.now.n ≤ length table.old) }
-        requires memory { 7 * (self.now.n + limit) ≤ length numbers.old }
-        ensures { GroupTold limit (current_lists has (held_by self.now) opened.now log.now) (jobs_of jobs.now) table.old table.new result.count result.deficiency }
+        requires memory { 7 * (self.now.n + L.limit) ≤ length numbers.old }
+        ensures { GroupTold L.limit (current_lists L.has (held_by self.now) opened.now log.now) (jobs_of jobs.now) table.old table.new result.count result.deficiency }
     {
         let n = self.n as usize;
         let counted = self.cuts;
@@ -90,7 +90,7 @@ impl Numbers {
         rule: usize,
     ) -> Result<Deficiency, Refusal>
         requires { memory ≤ length numbers.old + self.now.n }
-        ensures { GroupSays L.PlaceSet.limit (current_lists L.PlaceSet.has (held_by self.now) opened.now log.now) (named_at R.Rule.names (take self.now.rules rules.now) rule) (group_refusal L.PlaceSet.has L.PlaceSet.limit R.Rule.lawful R.Rule.names (held_by self.now) opened.now rules.now log.now (lengths (length opened.now) (length rules.now) (length log.now) 0 (length table.old) (length working.old) memory (length wake_ups.now)) rule) table.old table.new result }
+        ensures { GroupSays L.limit (current_lists L.has (held_by self.now) opened.now log.now) (named_at R.names (take self.now.rules rules.now) rule) (group_refusal L.has L.limit R.lawful R.names (held_by self.now) opened.now rules.now log.now (lengths (length opened.now) (length rules.now) (length log.now) 0 (length table.old) (length working.old) memory (length wake_ups.now)) rule) table.old table.new result }
     {
         let tables = Lengths {
             opened: opened.len(),
@@ -120,8 +120,8 @@ impl<S: Stage + Drop> Board<S> {
         wake_ups: &mut [WakeUp],
         rule: usize,
     ) -> Result<Deficiency, Refusal>
-        requires { S.Stage.shut self.now.stage }
-        ensures { GroupSays L.PlaceSet.limit (current_lists L.PlaceSet.has (held_by self.now.numbers) opened.now log.now) (named_at R.Rule.names (take self.now.numbers.rules rules.now) rule) (group_refusal L.PlaceSet.has L.PlaceSet.limit R.Rule.lawful R.Rule.names (held_by self.now.numbers) opened.now rules.now log.now (lengths (length opened.now) (length rules.now) (length log.now) 0 (length table.old) (length working.old) (length numbers.old) (length wake_ups.old)) rule) table.old table.new result }
+        requires { S.shut self.now.stage }
+        ensures { GroupSays L.limit (current_lists L.has (held_by self.now.numbers) opened.now log.now) (named_at R.names (take self.now.numbers.rules rules.now) rule) (group_refusal L.has L.limit R.lawful R.names (held_by self.now.numbers) opened.now rules.now log.now (lengths (length opened.now) (length rules.now) (length log.now) 0 (length table.old) (length working.old) (length numbers.old) (length wake_ups.old)) rule) table.old table.new result }
     {
         let memory = numbers.len();
         self.numbers.group(
@@ -141,8 +141,8 @@ impl<S: Stage + Drop> Board<S> {
         wake_ups: &mut [WakeUp],
         rule: usize,
     ) -> Result<Deficiency, Refusal>
-        requires { S.Stage.shut self.now.stage }
-        ensures { GroupSays L.PlaceSet.limit (current_lists L.PlaceSet.has (held_by self.now.numbers) opened.now log.now) (named_at R.Rule.names (take self.now.numbers.rules rules.now) rule) (group_refusal L.PlaceSet.has L.PlaceSet.limit R.Rule.lawful R.Rule.names (held_by self.now.numbers) opened.now rules.now log.now (lengths (length opened.now) (length rules.now) (length log.now) 0 (length table.old) (length working.old) (length numbers.old + self.now.numbers.n) (length wake_ups.old)) rule) table.old table.new result }
+        requires { S.shut self.now.stage }
+        ensures { GroupSays L.limit (current_lists L.has (held_by self.now.numbers) opened.now log.now) (named_at R.names (take self.now.numbers.rules rules.now) rule) (group_refusal L.has L.limit R.lawful R.names (held_by self.now.numbers) opened.now rules.now log.now (lengths (length opened.now) (length rules.now) (length log.now) 0 (length table.old) (length working.old) (length numbers.old + self.now.numbers.n) (length wake_ups.old)) rule) table.old table.new result }
     {
         let memory = numbers.len() + self.numbers.n as usize;
         self.numbers.group(

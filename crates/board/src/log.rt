@@ -60,7 +60,7 @@ impl<S: Stage + Drop> Board<S> {
         job: u16,
         place: u16,
     ) -> Result<Board<AtWork>, Rejected<Board<S>>>
-        requires { S.Stage.shut self.stage }
+        requires { S.shut self.stage }
         ensures refusal { refusal_back result ≡ cut_refusal (held_by self.numbers) (length log.old) job place }
         ensures board { MatchResult result (λ b. Same self.numbers self.numbers.rules (self.numbers.cuts + 1) b.numbers × (log.new ≡ set log.old self.numbers.cuts (record { action = action; job = job; place = place }))) (λ e. (e.board ≡ self) × (log.new ≡ log.old)) }
     {
@@ -91,7 +91,7 @@ impl<S: Stage + Drop> Board<S> {
 
     // The first `k` cuts alone; the board is then at work. The log keeps its content.
     pub fn return_to(self, log: &[Cut], k: usize) -> Result<Board<AtWork>, Rejected<Board<S>>>
-        requires { S.Stage.shut self.stage }
+        requires { S.shut self.stage }
         ensures refusal { refusal_back result ≡ return_refusal (held_by self.numbers) (length log.now) k }
         ensures board { MatchResult result (λ b. Same self.numbers self.numbers.rules k b.numbers) (λ e. e.board ≡ self) }
     {

@@ -24,7 +24,7 @@ impl Board<AtWork> {
         log: &[Cut],
         counted: usize,
     ) -> Result<Board<AtWork>, Refusal>
-        ensures refusal { refusal_of result ≡ resume_refusal L.PlaceSet.has L.PlaceSet.limit R.Rule.lawful (held_as n w held counted) opened.now rules.now log.now }
+        ensures refusal { refusal_of result ≡ resume_refusal L.has L.limit R.lawful (held_as n w held counted) opened.now rules.now log.now }
         ensures board { IfOk result (λ b. Holds n w held counted b.numbers) }
     {
         check_size::<L>(n, w, opened.len())?;
@@ -56,7 +56,7 @@ impl<S: Stage + Drop> Board<S> {
         rules: &[R],
         log: &[Cut],
     ) -> Result<(), Refusal>
-        ensures { refusal_of result ≡ tables_refusal L.PlaceSet.has L.PlaceSet.limit R.Rule.lawful (held_by self.now.numbers) opened.now rules.now log.now }
+        ensures { refusal_of result ≡ tables_refusal L.has L.limit R.lawful (held_by self.now.numbers) opened.now rules.now log.now }
     {
         let n = self.numbers.n as usize;
         if opened.len() < n || rules.len() < self.numbers.rules || log.len() < self.numbers.cuts {

@@ -31,9 +31,9 @@ pub(crate) fn settle_current<L: PlaceSet + Copy, R: Rule>(
     requires rules { length rules.now ≤ 64 }
     requires slots { length rules.now ≤ length wake_ups.old }
     requires few { length lists.old ≤ 256 }
-    requires lawful { All (λ r. R.Rule.lawful r (length lists.old) ≡ true) rules.now }
-    requires memory { 8 * (length lists.old + L.PlaceSet.limit) ≤ length numbers.old }
-    ensures { Reached L.PlaceSet.has R.Rule.scope R.Rule.admits rules.now (length lists.old) (current (family L.PlaceSet.has opened.now) cuts.now) lists.new result }
+    requires lawful { All (λ r. R.lawful r (length lists.old) ≡ true) rules.now }
+    requires memory { 8 * (length lists.old + L.limit) ≤ length numbers.old }
+    ensures { Reached L.has R.scope R.admits rules.now (length lists.old) (current (family L.has opened.now) cuts.now) lists.new result }
 {
     write_current(opened, cuts, lists);
     settle(rules, lists, numbers, wake_ups)
@@ -48,8 +48,8 @@ impl Numbers {
         tables: &Lengths,
     ) -> Result<(), Refusal>
         requires { (tables.now.opened ≡ length opened.now) × (tables.now.rules ≡ length rules.now) × (tables.now.log ≡ length log.now) }
-        ensures refusal { refusal_of result ≡ settle_refusal L.PlaceSet.has L.PlaceSet.limit R.Rule.lawful (held_by self.now) opened.now rules.now log.now tables.now }
-        ensures ready { OnOk result (Ready L.PlaceSet.limit R.Rule.lawful (held_by self.now) rules.now tables.now × (self.now.n ≤ tables.now.standing)) }
+        ensures refusal { refusal_of result ≡ settle_refusal L.has L.limit R.lawful (held_by self.now) opened.now rules.now log.now tables.now }
+        ensures ready { OnOk result (Ready L.limit R.lawful (held_by self.now) rules.now tables.now × (self.now.n ≤ tables.now.standing)) }
     {
         if self.are_short(L::width_limit(), tables) || tables.standing < self.n as usize {
             return Err(Refusal::TableTooShort);
@@ -69,8 +69,8 @@ impl Numbers {
         numbers: &mut [u16],
         wake_ups: &mut [WakeUp],
     ) -> Result<(), Refusal>
-        ensures refusal { SettleSays R.Rule.scope R.Rule.admits (take self.now.rules rules.now) self.now.n (current_lists L.PlaceSet.has (held_by self.now) opened.now log.now) (settle_refusal L.PlaceSet.has L.PlaceSet.limit R.Rule.lawful (held_by self.now) opened.now rules.now log.now (lengths (length opened.now) (length rules.now) (length log.now) (length standing.old) 0 (length working.old) (length numbers.old) (length wake_ups.old))) (refusal_of result) }
-        ensures standing { MatchResult result (λ _. Stands L.PlaceSet.has R.Rule.scope R.Rule.admits (take self.now.rules rules.now) self.now.n (current_lists L.PlaceSet.has (held_by self.now) opened.now log.now) standing.old standing.new) (λ _. standing.new ≡ standing.old) }
+        ensures refusal { SettleSays R.scope R.admits (take self.now.rules rules.now) self.now.n (current_lists L.has (held_by self.now) opened.now log.now) (settle_refusal L.has L.limit R.lawful (held_by self.now) opened.now rules.now log.now (lengths (length opened.now) (length rules.now) (length log.now) (length standing.old) 0 (length working.old) (length numbers.old) (length wake_ups.old))) (refusal_of result) }
+        ensures standing { MatchResult result (λ _. Stands L.has R.scope R.admits (take self.now.rules rules.now) self.now.n (current_lists L.has (held_by self.now) opened.now log.now) standing.old standing.new) (λ _. standing.new ≡ standing.old) }
     {
         let tables = Lengths {
             opened: opened.len(),
@@ -116,10 +116,10 @@ impl<S: Stage + Drop> Board<S> {
         numbers: &mut [u16],
         wake_ups: &mut [WakeUp],
     ) -> Result<Board<Settled>, Rejected<Board<S>>>
-        requires { S.Stage.shut self.stage }
-        ensures refusal { SettleSays R.Rule.scope R.Rule.admits (take self.numbers.rules rules.now) self.numbers.n (current_lists L.PlaceSet.has (held_by self.numbers) opened.now log.now) (settle_refusal L.PlaceSet.has L.PlaceSet.limit R.Rule.lawful (held_by self.numbers) opened.now rules.now log.now (lengths (length opened.now) (length rules.now) (length log.now) (length standing.old) 0 (length working.old) (length numbers.old) (length wake_ups.old))) (refusal_back result) }
+        requires { S.shut self.stage }
+        ensures refusal { SettleSays R.scope R.admits (take self.numbers.rules rules.now) self.numbers.n (current_lists L.has (held_by self.numbers) opened.now log.now) (settle_refusal L.has L.limit R.lawful (held_by self.numbers) opened.now rules.now log.now (lengths (length opened.now) (length rules.now) (length log.now) (length standing.old) 0 (length working.old) (length numbers.old) (length wake_ups.old))) (refusal_back result) }
         ensures board { MatchResult result (λ b. b.numbers ≡ self.numbers) (λ e. e.board ≡ self) }
-        ensures standing { MatchResult result (λ _. Stands L.PlaceSet.has R.Rule.scope R.Rule.admits (take self.numbers.rules rules.now) self.numbers.n (current_lists L.PlaceSet.has (held_by self.numbers) opened.now log.now) standing.old standing.new) (λ _. standing.new ≡ standing.old) }
+        ensures standing { MatchResult result (λ _. Stands L.has R.scope R.admits (take self.numbers.rules rules.now) self.numbers.n (current_lists L.has (held_by self.numbers) opened.now log.now) standing.old standing.new) (λ _. standing.new ≡ standing.old) }
     {
         match self
             .numbers

@@ -10,7 +10,7 @@ use refusals::Refusal;
 impl<S: Stage + Drop> Board<S> {
     // The first lists, one for each job.
     pub fn standing<'a, L>(&self, standing: &'a [L]) -> Result<&'a [L], Refusal>
-        requires { S.Stage.stands self.now.stage }
+        requires { S.stands self.now.stage }
         ensures refusal { refusal_of result ≡ standing_refusal (held_by self.now.numbers) (length standing.now) }
         ensures lists { IfOk result (λ lists. lists.now ≡ take self.now.numbers.n standing.now) }
     {

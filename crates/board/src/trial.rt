@@ -69,7 +69,7 @@ impl Numbers {
         place: u16,
     ) -> Result<(), Refusal>
         requires { (tables.now.opened ≡ length opened.now) × (tables.now.rules ≡ length rules.now) × (tables.now.log ≡ length log.now) }
-        ensures refusal { MatchResult result (λ _. (short_tables L.PlaceSet.limit (held_by self.now) tables.now ≡ false) × (room_refusal (held_by self.now) tables.now.log job place ≡ None)) (λ e. Some (says e) ≡ trial_refusal L.PlaceSet.has L.PlaceSet.limit R.Rule.lawful (held_by self.now) opened.now rules.now log.now tables.now job place) }
+        ensures refusal { MatchResult result (λ _. (short_tables L.limit (held_by self.now) tables.now ≡ false) × (room_refusal (held_by self.now) tables.now.log job place ≡ None)) (λ e. Some (says e) ≡ trial_refusal L.has L.limit R.lawful (held_by self.now) opened.now rules.now log.now tables.now job place) }
         ensures room { OnOk result ((self.now.cuts < tables.now.log) × (job < self.now.n)) }
     {
         if self.are_short(L::width_limit(), tables) {
@@ -96,7 +96,7 @@ impl Numbers {
         job: u16,
         place: u16,
     ) -> Result<bool, Refusal>
-        ensures answer { TrialSays R.Rule.scope R.Rule.admits (take self.now.rules rules.now) self.now.n (fixed job place (current_lists L.PlaceSet.has (held_by self.now) opened.now log.old)) (trial_refusal L.PlaceSet.has L.PlaceSet.limit R.Rule.lawful (held_by self.now) opened.now rules.now log.old (lengths (length opened.now) (length rules.now) (length log.old) 0 0 (length working.old) (length numbers.old) (length wake_ups.old)) job place) result }
+        ensures answer { TrialSays R.scope R.admits (take self.now.rules rules.now) self.now.n (fixed job place (current_lists L.has (held_by self.now) opened.now log.old)) (trial_refusal L.has L.limit R.lawful (held_by self.now) opened.now rules.now log.old (lengths (length opened.now) (length rules.now) (length log.old) 0 0 (length working.old) (length numbers.old) (length wake_ups.old)) job place) result }
         ensures log { log.new ≡ log.old }
     {
         let tables = Lengths {
@@ -150,8 +150,8 @@ impl<S: Stage + Drop> Board<S> {
         job: u16,
         place: u16,
     ) -> Result<bool, Refusal>
-        requires { S.Stage.shut self.now.stage }
-        ensures answer { TrialSays R.Rule.scope R.Rule.admits (take self.now.numbers.rules rules.now) self.now.numbers.n (fixed job place (current_lists L.PlaceSet.has (held_by self.now.numbers) opened.now log.old)) (trial_refusal L.PlaceSet.has L.PlaceSet.limit R.Rule.lawful (held_by self.now.numbers) opened.now rules.now log.old (lengths (length opened.now) (length rules.now) (length log.old) 0 0 (length working.old) (length numbers.old) (length wake_ups.old)) job place) result }
+        requires { S.shut self.now.stage }
+        ensures answer { TrialSays R.scope R.admits (take self.now.numbers.rules rules.now) self.now.numbers.n (fixed job place (current_lists L.has (held_by self.now.numbers) opened.now log.old)) (trial_refusal L.has L.limit R.lawful (held_by self.now.numbers) opened.now rules.now log.old (lengths (length opened.now) (length rules.now) (length log.old) 0 0 (length working.old) (length numbers.old) (length wake_ups.old)) job place) result }
         ensures log { log.new ≡ log.old }
     {
         self.numbers

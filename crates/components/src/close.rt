@@ -39,10 +39,10 @@ fn has_outlet<J: Bipartite>(
     labels: &[u16],
     job: usize,
 ) -> bool
-    requires full { FullMatching (setting (J.Bipartite.jobs jobs.now) (J.Bipartite.width jobs.now) (J.Bipartite.holds jobs.now) full.now.places.now full.now.holders.now) }
-    requires job { job < J.Bipartite.jobs jobs.now }
-    requires tables { (J.Bipartite.jobs jobs.now ≤ length index.now) × (J.Bipartite.jobs jobs.now ≤ length labels.now) }
-    ensures { Decides result (HasOutlet (setting (J.Bipartite.jobs jobs.now) (J.Bipartite.width jobs.now) (J.Bipartite.holds jobs.now) full.now.places.now full.now.holders.now) index.now labels.now job) }
+    requires full { FullMatching (setting (J.jobs jobs.now) (J.width jobs.now) (J.holds jobs.now) full.now.places.now full.now.holders.now) }
+    requires job { job < J.jobs jobs.now }
+    requires tables { (J.jobs jobs.now ≤ length index.now) × (J.jobs jobs.now ≤ length labels.now) }
+    ensures { Decides result (HasOutlet (setting (J.jobs jobs.now) (J.width jobs.now) (J.holds jobs.now) full.now.places.now full.now.holders.now) index.now labels.now job) }
 {
     let mut from = 0;
     while let Some(place) = jobs.next_from(job, from) {
@@ -64,12 +64,12 @@ fn some_outlet<J: Bipartite>(
     from: usize,
     top: usize,
 ) -> bool
-    requires full { FullMatching (setting (J.Bipartite.jobs jobs.now) (J.Bipartite.width jobs.now) (J.Bipartite.holds jobs.now) full.now.places.now full.now.holders.now) }
+    requires full { FullMatching (setting (J.jobs jobs.now) (J.width jobs.now) (J.holds jobs.now) full.now.places.now full.now.holders.now) }
     requires order { from ≤ top }
     requires fits { top ≤ length nodes.now }
-    requires jobs { (x : ℕ) → x < top → at nodes.now x < J.Bipartite.jobs jobs.now }
-    requires tables { (J.Bipartite.jobs jobs.now ≤ length index.now) × (J.Bipartite.jobs jobs.now ≤ length labels.now) }
-    ensures { Decides result (SomeOutlet (setting (J.Bipartite.jobs jobs.now) (J.Bipartite.width jobs.now) (J.Bipartite.holds jobs.now) full.now.places.now full.now.holders.now) index.now labels.now nodes.now from top) }
+    requires jobs { (x : ℕ) → x < top → at nodes.now x < J.jobs jobs.now }
+    requires tables { (J.jobs jobs.now ≤ length index.now) × (J.jobs jobs.now ≤ length labels.now) }
+    ensures { Decides result (SomeOutlet (setting (J.jobs jobs.now) (J.width jobs.now) (J.holds jobs.now) full.now.places.now full.now.holders.now) index.now labels.now nodes.now from top) }
 {
     for x in from..top {
         if has_outlet(jobs, full, index, labels, nodes[x] as usize) {
@@ -89,13 +89,13 @@ pub fn close<J: Bipartite>(
     s: Heights,
     from: usize,
 ) -> Heights
-    requires full { FullMatching (setting (J.Bipartite.jobs jobs.now) (J.Bipartite.width jobs.now) (J.Bipartite.holds jobs.now) full.now.places.now full.now.holders.now) }
+    requires full { FullMatching (setting (J.jobs jobs.now) (J.width jobs.now) (J.holds jobs.now) full.now.places.now full.now.holders.now) }
     requires order { from ≤ s.top }
     requires heights { (0 < s.cuts) × (0 < s.depth) × (s.next < 65535) }
     requires fits { s.top ≤ length nodes.now }
-    requires jobs { (x : ℕ) → x < s.top → at nodes.now x < J.Bipartite.jobs jobs.now }
-    requires tables { (J.Bipartite.jobs jobs.now ≤ length index.old) × (J.Bipartite.jobs jobs.now ≤ length labels.old) }
-    ensures { Closed (setting (J.Bipartite.jobs jobs.now) (J.Bipartite.width jobs.now) (J.Bipartite.holds jobs.now) full.now.places.now full.now.holders.now) s from index.old labels.old nodes.now index.new labels.new result }
+    requires jobs { (x : ℕ) → x < s.top → at nodes.now x < J.jobs jobs.now }
+    requires tables { (J.jobs jobs.now ≤ length index.old) × (J.jobs jobs.now ≤ length labels.old) }
+    ensures { Closed (setting (J.jobs jobs.now) (J.width jobs.now) (J.holds jobs.now) full.now.places.now full.now.holders.now) s from index.old labels.old nodes.now index.new labels.new result }
 {
     let mark = if some_outlet(jobs, full, index, labels, nodes, from, s.top) {
         1

@@ -21,13 +21,13 @@ fn advance<J: Bipartite>(
     path: &mut [u16],
     s: Heights,
 ) -> Heights
-    requires full { FullMatching (setting (J.Bipartite.jobs jobs.now) (J.Bipartite.width jobs.now) (J.Bipartite.holds jobs.now) full.now.places.now full.now.holders.now) }
+    requires full { FullMatching (setting (J.jobs jobs.now) (J.width jobs.now) (J.holds jobs.now) full.now.places.now full.now.holders.now) }
     requires depth { 0 < s.depth }
-    requires state { Walked (setting (J.Bipartite.jobs jobs.now) (J.Bipartite.width jobs.now) (J.Bipartite.holds jobs.now) full.now.places.now full.now.holders.now) (tables cursors.old index.old labels.old nodes.old cuts.old path.old) s }
+    requires state { Walked (setting (J.jobs jobs.now) (J.width jobs.now) (J.holds jobs.now) full.now.places.now full.now.holders.now) (tables cursors.old index.old labels.old nodes.old cuts.old path.old) s }
     requires readable { Readable (tables cursors.old index.old labels.old nodes.old cuts.old path.old) s }
-    ensures state { Walked (setting (J.Bipartite.jobs jobs.now) (J.Bipartite.width jobs.now) (J.Bipartite.holds jobs.now) full.now.places.now full.now.holders.now) (tables cursors.new index.new labels.new nodes.new cuts.new path.new) result }
+    ensures state { Walked (setting (J.jobs jobs.now) (J.width jobs.now) (J.holds jobs.now) full.now.places.now full.now.holders.now) (tables cursors.new index.new labels.new nodes.new cuts.new path.new) result }
     ensures seen { (a : ℕ) → filled index.old a ≡ true → filled index.new a ≡ true }
-    ensures less { effort (J.Bipartite.jobs jobs.now) cursors.new result.depth < effort (J.Bipartite.jobs jobs.now) cursors.old s.depth }
+    ensures less { effort (J.jobs jobs.now) cursors.new result.depth < effort (J.jobs jobs.now) cursors.old s.depth }
 {
     let last = path[s.depth - 1];
     let job = nodes[last as usize] as usize;
@@ -62,10 +62,10 @@ fn explore<J: Bipartite>(
     root: u16,
     next: u16,
 ) -> u16
-    requires full { FullMatching (setting (J.Bipartite.jobs jobs.now) (J.Bipartite.width jobs.now) (J.Bipartite.holds jobs.now) full.now.places.now full.now.holders.now) }
-    requires root { (root < J.Bipartite.jobs jobs.now) × (filled index.old root ≡ false) }
-    requires state { Walked (setting (J.Bipartite.jobs jobs.now) (J.Bipartite.width jobs.now) (J.Bipartite.holds jobs.now) full.now.places.now full.now.holders.now) (tables cursors.old index.old labels.old nodes.old cuts.old path.old) (empty_at next) }
-    ensures state { Walked (setting (J.Bipartite.jobs jobs.now) (J.Bipartite.width jobs.now) (J.Bipartite.holds jobs.now) full.now.places.now full.now.holders.now) (tables cursors.new index.new labels.new nodes.new cuts.new path.new) (empty_at result) }
+    requires full { FullMatching (setting (J.jobs jobs.now) (J.width jobs.now) (J.holds jobs.now) full.now.places.now full.now.holders.now) }
+    requires root { (root < J.jobs jobs.now) × (filled index.old root ≡ false) }
+    requires state { Walked (setting (J.jobs jobs.now) (J.width jobs.now) (J.holds jobs.now) full.now.places.now full.now.holders.now) (tables cursors.old index.old labels.old nodes.old cuts.old path.old) (empty_at next) }
+    ensures state { Walked (setting (J.jobs jobs.now) (J.width jobs.now) (J.holds jobs.now) full.now.places.now full.now.holders.now) (tables cursors.new index.new labels.new nodes.new cuts.new path.new) (empty_at result) }
     ensures seen { (a : ℕ) → filled index.old a ≡ true → filled index.new a ≡ true }
     ensures root { filled index.new root ≡ true }
 {
@@ -93,10 +93,10 @@ pub fn components<J: Bipartite>(
     cuts: &mut [u16],
     path: &mut [u16],
 )
-    requires full { FullMatching (setting (J.Bipartite.jobs jobs.now) (J.Bipartite.width jobs.now) (J.Bipartite.holds jobs.now) full.now.places.now full.now.holders.now) }
-    requires places { length full.now.places.now ≡ J.Bipartite.jobs jobs.now }
-    requires tables { Fit (J.Bipartite.jobs jobs.now) (tables cursors.old index.old labels.old nodes.old cuts.old path.old) }
-    ensures { Searched (single (J.Bipartite.jobs jobs.now) (J.Bipartite.width jobs.now) (J.Bipartite.holds jobs.now)) (at full.now.places.now) (loose index.new) (at labels.new) }
+    requires full { FullMatching (setting (J.jobs jobs.now) (J.width jobs.now) (J.holds jobs.now) full.now.places.now full.now.holders.now) }
+    requires places { length full.now.places.now ≡ J.jobs jobs.now }
+    requires tables { Fit (J.jobs jobs.now) (tables cursors.old index.old labels.old nodes.old cuts.old path.old) }
+    ensures { Searched (single (J.jobs jobs.now) (J.width jobs.now) (J.holds jobs.now)) (at full.now.places.now) (loose index.new) (at labels.new) }
 {
     index.fill(NONE);
     labels.fill(NONE);

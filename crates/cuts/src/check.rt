@@ -9,7 +9,7 @@ use refusals::Refusal;
 
 // Whether the list holds a place not below `width`.
 fn exceeds<L: PlaceSet>(list: &L, width: u16) -> bool
-    ensures { result ≡ past_width limit width (has list.now) }
+    ensures { result ≡ past_width L.limit width (L.has list.now) }
 {
     list.next_from(width).is_some()
 }
@@ -17,7 +17,7 @@ fn exceeds<L: PlaceSet>(list: &L, width: u16) -> bool
 // Every list holds only places below `width`.
 pub fn check_lists<L: PlaceSet>(lists: &[L], width: u16) -> Result<(), Refusal>
     requires { length lists.now ≤ 256 }
-    ensures { refusal_of result ≡ first_fault (λ x. past_width limit width (has x)) 11 0 lists.now }
+    ensures { refusal_of result ≡ first_fault (λ x. past_width L.limit width (L.has x)) 11 0 lists.now }
 {
     for (i, list) in lists.iter().enumerate() {
         if exceeds(list, width) {

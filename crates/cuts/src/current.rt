@@ -8,7 +8,7 @@ use places::PlaceSet;
 
 // Carries out one cut; a job past the lists holds nothing to cut.
 fn carry<L: PlaceSet>(lists: &mut [L], cut: Cut)
-    ensures { family has lists.new ≡ carried cut (family has lists.old) }
+    ensures { family L.has lists.new ≡ carried cut (family L.has lists.old) }
 {
     let job = cut.job as usize;
     if job >= lists.len() {
@@ -23,7 +23,7 @@ fn carry<L: PlaceSet>(lists: &mut [L], cut: Cut)
 // Writes the opened lists with all cuts carried out.
 pub fn write_current<L: PlaceSet + Copy>(opened: &[L], cuts: &[Cut], lists: &mut [L])
     requires { length opened.now ≡ length lists.old }
-    ensures { family has lists.new ≡ current (family has opened.now) cuts.now }
+    ensures { family L.has lists.new ≡ current (family L.has opened.now) cuts.now }
 {
     lists.copy_from_slice(opened);
     for cut in cuts {

@@ -77,9 +77,9 @@ pub fn deficient_group<L: PlaceSet>(
 ) -> Deficiency
     requires few { length lists.now ≤ 256 }
     requires scope { Scope (length lists.now) (jobs_of jobs.now) }
-    requires memory { 7 * (length lists.now + L.PlaceSet.limit) ≤ length numbers.old }
+    requires memory { 7 * (length lists.now + L.limit) ≤ length numbers.old }
     requires table { length lists.now ≤ length table.old }
-    ensures { GroupTold L.PlaceSet.limit (family L.PlaceSet.has lists.now) (jobs_of jobs.now) table.old table.new result.count result.deficiency }
+    ensures { GroupTold L.limit (family L.has lists.now) (jobs_of jobs.now) table.old table.new result.count result.deficiency }
 {
     let m = jobs.count as usize;
     let (places, rest) = numbers.split_at_mut(m);

@@ -27,8 +27,8 @@ fn narrow_full<'x, L: PlaceSet + Copy>(
     requires few { jobs.now.count ≤ 256 }
     requires scope { Scope (length lists.old) (jobs_of jobs.now) }
     requires tables { (length places.now ≡ jobs.now.count) × (length cursors.old ≡ jobs.now.count) × (length marks.old ≡ jobs.now.count) × (4 * jobs.now.count ≤ length numbers.old) }
-    requires full { FullMatching (setting jobs.now.count L.PlaceSet.limit (scoped (jobs_of jobs.now) (family L.PlaceSet.has lists.old)) places.now holders.now) }
-    ensures { Narrowed (jobs_of jobs.now) no_place_twice (family L.PlaceSet.has lists.old) (family L.PlaceSet.has lists.new) }
+    requires full { FullMatching (setting jobs.now.count L.limit (scoped (jobs_of jobs.now) (family L.has lists.old)) places.now holders.now) }
+    ensures { Narrowed (jobs_of jobs.now) no_place_twice (family L.has lists.old) (family L.has lists.new) }
 {
     let m = jobs.count as usize;
     let (labels, rest) = numbers.split_at_mut(m);
@@ -61,8 +61,8 @@ fn narrow_full<'x, L: PlaceSet + Copy>(
 pub fn narrow_jobs<L: PlaceSet + Copy>(jobs: &Progression, lists: &mut [L], numbers: &mut [u16])
     requires few { jobs.now.count ≤ 256 }
     requires scope { Scope (length lists.old) (jobs_of jobs.now) }
-    requires memory { 7 * jobs.now.count + L.PlaceSet.limit ≤ length numbers.old }
-    ensures { Narrowed (jobs_of jobs.now) no_place_twice (family L.PlaceSet.has lists.old) (family L.PlaceSet.has lists.new) }
+    requires memory { 7 * jobs.now.count + L.limit ≤ length numbers.old }
+    ensures { Narrowed (jobs_of jobs.now) no_place_twice (family L.has lists.old) (family L.has lists.new) }
 {
     let m = jobs.count as usize;
     let (places, rest) = numbers.split_at_mut(m);

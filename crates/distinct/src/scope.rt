@@ -39,9 +39,9 @@ impl<'a, L> Scoped<'a, L> {
 impl<'a, L: PlaceSet> Bipartite for Scoped<'a, L> {
     ghost jobs = { λ s. s.jobs.count };
 
-    ghost width = { λ _. L.PlaceSet.limit };
+    ghost width = { λ _. L.limit };
 
-    ghost holds = { λ s. scoped (jobs_of s.jobs) (family L.PlaceSet.has s.lists.now) };
+    ghost holds = { λ s. scoped (jobs_of s.jobs) (family L.has s.lists.now) };
 
     fn next_from(&self, job: usize, place: u16) -> Option<u16> {
         self.lists[self.index(job)].next_from(place)

@@ -42,8 +42,8 @@ impl<'a, 'b> Division<'a, 'b> {
 
 // Strikes from the list of a job the places that do not stay.
 fn sift<L: PlaceSet + Copy>(list: &mut L, division: &Division, job: usize)
-    requires { (m : ℕ) × (job < m) × Divided m L.PlaceSet.limit division.now.places.now division.now.holders.now division.now.labels.now division.now.marks.now }
-    ensures { (q : ℕ) → L.PlaceSet.has list.new q ≡ (L.PlaceSet.has list.old q && stays division.now.places.now division.now.holders.now division.now.labels.now division.now.marks.now job q) }
+    requires { (m : ℕ) × (job < m) × Divided m L.limit division.now.places.now division.now.holders.now division.now.labels.now division.now.marks.now }
+    ensures { (q : ℕ) → L.has list.new q ≡ (L.has list.old q && stays division.now.places.now division.now.holders.now division.now.labels.now division.now.marks.now job q) }
 {
     let whole = *list;
     let mut from = 0;
@@ -59,8 +59,8 @@ fn sift<L: PlaceSet + Copy>(list: &mut L, division: &Division, job: usize)
 pub fn sift_all<L: PlaceSet + Copy>(jobs: &Progression, lists: &mut [L], division: &Division)
     requires scope { Scope (length lists.old) (jobs_of jobs.now) }
     requires fits { (i : ℕ) → i < jobs.now.count → jobs.now.first + i * jobs.now.step < length lists.old }
-    requires tables { Divided jobs.now.count L.PlaceSet.limit division.now.places.now division.now.holders.now division.now.labels.now division.now.marks.now }
-    ensures { Sifted (jobs_of jobs.now) jobs.now.count (stays division.now.places.now division.now.holders.now division.now.labels.now division.now.marks.now) (family L.PlaceSet.has lists.old) (family L.PlaceSet.has lists.new) }
+    requires tables { Divided jobs.now.count L.limit division.now.places.now division.now.holders.now division.now.labels.now division.now.marks.now }
+    ensures { Sifted (jobs_of jobs.now) jobs.now.count (stays division.now.places.now division.now.holders.now division.now.labels.now division.now.marks.now) (family L.has lists.old) (family L.has lists.new) }
 {
     for i in 0..jobs.count as usize {
         sift(&mut lists[job_at(jobs, i)], division, i);
@@ -71,7 +71,7 @@ pub fn sift_all<L: PlaceSet + Copy>(jobs: &Progression, lists: &mut [L], divisio
 pub fn empty_all<L: PlaceSet>(jobs: &Progression, lists: &mut [L])
     requires scope { Scope (length lists.old) (jobs_of jobs.now) }
     requires fits { (i : ℕ) → i < jobs.now.count → jobs.now.first + i * jobs.now.step < length lists.old }
-    ensures { Sifted (jobs_of jobs.now) jobs.now.count (λ k q. false) (family L.PlaceSet.has lists.old) (family L.PlaceSet.has lists.new) }
+    ensures { Sifted (jobs_of jobs.now) jobs.now.count (λ k q. false) (family L.has lists.old) (family L.has lists.new) }
 {
     for i in 0..jobs.count as usize {
         lists[job_at(jobs, i)].fix(NONE);

@@ -31,7 +31,7 @@ pub fn ask<L: PlaceSet + Copy, R: Rule>(
     asked: Ask,
 ) -> (Board<Closed>, Answer)
     ensures same { Same board.numbers board.numbers.rules result.0.numbers.cuts result.0.numbers }
-    ensures asked { Asked (kinds L.PlaceSet.has L.PlaceSet.limit R.Rule.scope R.Rule.admits R.Rule.lawful R.Rule.names) (held_by board.numbers) opened.now rules.now (lengths (length opened.now) (length rules.now) (length log.old) (length standing.old) (length group.old) (length working.old) (length numbers.old) (length wake_ups.old)) asked (said result.1) result.0.numbers.cuts log.old log.new board.stage result.0.stage standing.old standing.new group.old group.new }
+    ensures asked { Asked (kinds L.has L.limit R.scope R.admits R.lawful R.names) (held_by board.numbers) opened.now rules.now (lengths (length opened.now) (length rules.now) (length log.old) (length standing.old) (length group.old) (length working.old) (length numbers.old) (length wake_ups.old)) asked (said result.1) result.0.numbers.cuts log.old log.new board.stage result.0.stage standing.old standing.new group.old group.new }
 {
     match asked {
         Ask::Cut(action, job, place) => match board.cut(log, action, job, place) {

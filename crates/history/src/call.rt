@@ -35,7 +35,7 @@ pub fn call<L: PlaceSet + Copy, R: Rule>(
     requires counted { board.numbers.cuts ≤ length log.old }
     requires held { board.numbers.rules ≤ length rules.now }
     ensures same { Same board.numbers board.numbers.rules result.0.numbers.cuts result.0.numbers }
-    ensures step { Stepped (kinds L.PlaceSet.has L.PlaceSet.limit R.Rule.scope R.Rule.admits R.Rule.lawful R.Rule.names) (setting board.numbers.n board.numbers.w opened.now (take board.numbers.rules rules.now) (lengths (length opened.now) (length rules.now) (length log.old) (length standing.old) (length group.old) (length working.old) (length numbers.old) (length wake_ups.old))) (take board.numbers.cuts log.old) log.old board.stage standing.old group.old (record { call = call; answer = result.1 }) result.0.numbers.cuts log.new result.0.stage standing.new group.new }
+    ensures step { Stepped (kinds L.has L.limit R.scope R.admits R.lawful R.names) (setting board.numbers.n board.numbers.w opened.now (take board.numbers.rules rules.now) (lengths (length opened.now) (length rules.now) (length log.old) (length standing.old) (length group.old) (length working.old) (length numbers.old) (length wake_ups.old))) (take board.numbers.cuts log.old) log.old board.stage standing.old group.old (record { call = call; answer = result.1 }) result.0.numbers.cuts log.new result.0.stage standing.new group.new }
 {
     let opened_end = front(call.lent.opened, opened.len());
     let rules_end = front(call.lent.rules, rules.len());

@@ -41,10 +41,10 @@ pub fn run_day<L: PlaceSet + Copy, R: Rule + Copy>(
     wake_ups: &mut [WakeUp],
     events: &mut [Event],
 ) -> Result<Board<Closed>, DayRefusal>
-    ensures refusal { stopped result ≡ day_stop (open_refusal L.PlaceSet.has L.PlaceSet.limit n w opened.now) (close_refusal L.PlaceSet.has L.PlaceSet.limit R.Rule.lawful (filling n w (accepted_of offers.new)) opened.now rules.new) }
-    ensures offers { OffersLeft R.Rule.lawful n w offers.old offers.new rules.old rules.new result }
+    ensures refusal { stopped result ≡ day_stop (open_refusal L.has L.limit n w opened.now) (close_refusal L.has L.limit R.lawful (filling n w (accepted_of offers.new)) opened.now rules.new) }
+    ensures offers { OffersLeft R.lawful n w offers.old offers.new rules.old rules.new result }
     ensures board { IfOk result (λ b. DayBoard n w (accepted_of offers.new) b.numbers) }
-    ensures run { MatchResult result (λ b. Run (kinds L.PlaceSet.has L.PlaceSet.limit R.Rule.scope R.Rule.admits R.Rule.lawful R.Rule.names) (setting n w opened.now (accepted_of offers.new) (lengths (length opened.now) (length rules.old) (length log.old) (length standing.old) (length group.old) (length working.old) (length numbers.old) (length wake_ups.old))) events.old events.new b.numbers.cuts log.old log.new b.stage standing.old standing.new group.old group.new) (λ _. (log.new ≡ log.old) × (standing.new ≡ standing.old) × (group.new ≡ group.old) × (events.new ≡ events.old)) }
+    ensures run { MatchResult result (λ b. Run (kinds L.has L.limit R.scope R.admits R.lawful R.names) (setting n w opened.now (accepted_of offers.new) (lengths (length opened.now) (length rules.old) (length log.old) (length standing.old) (length group.old) (length working.old) (length numbers.old) (length wake_ups.old))) events.old events.new b.numbers.cuts log.old log.new b.stage standing.old standing.new group.old group.new) (λ _. (log.new ≡ log.old) × (standing.new ≡ standing.old) × (group.new ≡ group.old) × (events.new ≡ events.old)) }
 {
     let mut board = match Board::<Filling>::open(n, w, opened) {
         Ok(board) => board,

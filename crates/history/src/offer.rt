@@ -32,7 +32,7 @@ fn answer_to(res: Result<(), Refusal>) -> Answer
 fn make_offer<R: Rule + Copy>(board: &mut Board<Filling>, rules: &mut [R], offer: &mut Offer<R>)
     requires { board.old.numbers.rules ≤ length rules.old }
     ensures same { Same board.old.numbers board.new.numbers.rules board.old.numbers.cuts board.new.numbers }
-    ensures offered { Offered R.Rule.lawful board.old.numbers.n board.old.numbers.w (take board.old.numbers.rules rules.old) rules.old offer.old offer.new board.new.numbers.rules rules.new }
+    ensures offered { Offered R.lawful board.old.numbers.n board.old.numbers.w (take board.old.numbers.rules rules.old) rules.old offer.old offer.new board.new.numbers.rules rules.new }
 {
     let rule = offer.rule;
     let lent = front(offer.lent, rules.len());
@@ -47,7 +47,7 @@ pub fn make_offers<R: Rule + Copy>(
 )
     requires { board.old.numbers.rules ≡ 0 }
     ensures same { Same board.old.numbers (length (accepted_of offers.new)) board.old.numbers.cuts board.new.numbers }
-    ensures filled { Filled R.Rule.lawful board.old.numbers.n board.old.numbers.w offers.old offers.new rules.old rules.new }
+    ensures filled { Filled R.lawful board.old.numbers.n board.old.numbers.w offers.old offers.new rules.old rules.new }
     ensures room { board.new.numbers.rules ≤ length rules.new }
 {
     for offer in offers.iter_mut() {

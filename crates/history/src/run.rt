@@ -30,7 +30,7 @@ fn carry<L: PlaceSet + Copy, R: Rule>(
     requires held { board.numbers.rules ≤ length rules.now }
     ensures same { Same board.numbers board.numbers.rules result.numbers.cuts result.numbers }
     ensures call { event.new.call ≡ event.old.call }
-    ensures step { Stepped (kinds L.PlaceSet.has L.PlaceSet.limit R.Rule.scope R.Rule.admits R.Rule.lawful R.Rule.names) (setting board.numbers.n board.numbers.w opened.now (take board.numbers.rules rules.now) (lengths (length opened.now) (length rules.now) (length log.old) (length standing.old) (length group.old) (length working.old) (length numbers.old) (length wake_ups.old))) (take board.numbers.cuts log.old) log.old board.stage standing.old group.old event.new result.numbers.cuts log.new result.stage standing.new group.new }
+    ensures step { Stepped (kinds L.has L.limit R.scope R.admits R.lawful R.names) (setting board.numbers.n board.numbers.w opened.now (take board.numbers.rules rules.now) (lengths (length opened.now) (length rules.now) (length log.old) (length standing.old) (length group.old) (length working.old) (length numbers.old) (length wake_ups.old))) (take board.numbers.cuts log.old) log.old board.stage standing.old group.old event.new result.numbers.cuts log.new result.stage standing.new group.new }
 {
     let asked = event.call;
     let (next, answer) = call(
@@ -56,7 +56,7 @@ pub fn carry_out<L: PlaceSet + Copy, R: Rule>(
     requires fresh { board.numbers.cuts ≡ 0 }
     requires held { board.numbers.rules ≤ length rules.now }
     ensures same { Same board.numbers board.numbers.rules result.numbers.cuts result.numbers }
-    ensures run { Run (kinds L.PlaceSet.has L.PlaceSet.limit R.Rule.scope R.Rule.admits R.Rule.lawful R.Rule.names) (setting board.numbers.n board.numbers.w opened.now (take board.numbers.rules rules.now) (lengths (length opened.now) (length rules.now) (length log.old) (length standing.old) (length group.old) (length working.old) (length numbers.old) (length wake_ups.old))) events.old events.new result.numbers.cuts log.old log.new result.stage standing.old standing.new group.old group.new }
+    ensures run { Run (kinds L.has L.limit R.scope R.admits R.lawful R.names) (setting board.numbers.n board.numbers.w opened.now (take board.numbers.rules rules.now) (lengths (length opened.now) (length rules.now) (length log.old) (length standing.old) (length group.old) (length working.old) (length numbers.old) (length wake_ups.old))) events.old events.new result.numbers.cuts log.old log.new result.stage standing.old standing.new group.old group.new }
 {
     let mut board = board.closed();
     for event in events.iter_mut() {

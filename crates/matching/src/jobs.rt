@@ -25,10 +25,10 @@ fn shift(places: &mut [u16], holders: &mut [u16], parents: &[u16], last: u16, pl
 
 // The first place of a job's list that no job has.
 fn first_free<J: Bipartite>(jobs: &J, holders: &[u16], job: usize) -> Option<u16>
-    requires job { job < J.Bipartite.jobs jobs.now }
-    requires width { J.Bipartite.width jobs.now ≤ 2048 }
-    requires holders { J.Bipartite.width jobs.now ≤ length holders.now }
-    ensures { FirstFree (J.Bipartite.width jobs.now) (J.Bipartite.holds jobs.now job) holders.now result }
+    requires job { job < J.jobs jobs.now }
+    requires width { J.width jobs.now ≤ 2048 }
+    requires holders { J.width jobs.now ≤ length holders.now }
+    ensures { FirstFree (J.width jobs.now) (J.holds jobs.now job) holders.now result }
 {
     let mut from = 0;
     while let Some(place) = jobs.next_from(job, from) {
@@ -42,11 +42,11 @@ fn first_free<J: Bipartite>(jobs: &J, holders: &[u16], job: usize) -> Option<u16
 
 // Gives each job in turn the first free place of its list, if there is one. No job has a place before.
 fn take_free<J: Bipartite>(jobs: &J, places: &mut [u16], holders: &mut [u16])
-    requires few { (J.Bipartite.jobs jobs.now ≤ 65535) × (J.Bipartite.width jobs.now ≤ 2048) }
-    requires places { length places.old ≡ J.Bipartite.jobs jobs.now }
+    requires few { (J.jobs jobs.now ≤ 65535) × (J.width jobs.now ≤ 2048) }
+    requires places { length places.old ≡ J.jobs jobs.now }
     requires none { (k : ℕ) → k < length places.old → slice_index places.old k ≡ 65535 }
-    requires matched { Matched (J.Bipartite.jobs jobs.now) (J.Bipartite.width jobs.now) (J.Bipartite.holds jobs.now) places.old holders.old }
-    ensures { Matched (J.Bipartite.jobs jobs.now) (J.Bipartite.width jobs.now) (J.Bipartite.holds jobs.now) places.new holders.new }
+    requires matched { Matched (J.jobs jobs.now) (J.width jobs.now) (J.holds jobs.now) places.old holders.old }
+    ensures { Matched (J.jobs jobs.now) (J.width jobs.now) (J.holds jobs.now) places.new holders.new }
 {
     for job in 0..places.len() {
         if let Some(place) = first_free(jobs, holders, job) {
@@ -63,12 +63,12 @@ pub fn match_jobs<J: Bipartite>(
     parents: &mut [u16],
     slots: &mut [u16],
 )
-    requires few { (J.Bipartite.jobs jobs.now ≤ 65535) × (J.Bipartite.width jobs.now ≤ 2048) }
-    requires places { length places.old ≡ J.Bipartite.jobs jobs.now }
-    requires holders { J.Bipartite.width jobs.now ≤ length holders.old }
-    requires parents { length parents.old ≡ J.Bipartite.jobs jobs.now }
-    requires slots { J.Bipartite.jobs jobs.now ≤ length slots.old }
-    ensures { Stalled (J.Bipartite.jobs jobs.now) (J.Bipartite.width jobs.now) (J.Bipartite.holds jobs.now) places.new holders.new parents.new }
+    requires few { (J.jobs jobs.now ≤ 65535) × (J.width jobs.now ≤ 2048) }
+    requires places { length places.old ≡ J.jobs jobs.now }
+    requires holders { J.width jobs.now ≤ length holders.old }
+    requires parents { length parents.old ≡ J.jobs jobs.now }
+    requires slots { J.jobs jobs.now ≤ length slots.old }
+    ensures { Stalled (J.jobs jobs.now) (J.width jobs.now) (J.holds jobs.now) places.new holders.new parents.new }
 {
     places.fill(NONE);
     holders.fill(NONE);

@@ -75,15 +75,15 @@ fn scan<J: Bipartite>(
     slots: &mut [u16],
     job: u16,
 ) -> Option<u16>
-    requires few { (J.Bipartite.jobs jobs.now ≤ 65535) × (J.Bipartite.width jobs.now ≤ 2048) }
-    requires matched { Matched (J.Bipartite.jobs jobs.now) (J.Bipartite.width jobs.now) (J.Bipartite.holds jobs.now) matching.now.places.now matching.now.holders.now }
+    requires few { (J.jobs jobs.now ≤ 65535) × (J.width jobs.now ≤ 2048) }
+    requires matched { Matched (J.jobs jobs.now) (J.width jobs.now) (J.holds jobs.now) matching.now.places.now matching.now.holders.now }
     requires ready { Ready queue.old (length slots.old) }
-    requires slots { J.Bipartite.jobs jobs.now ≤ length slots.old }
-    requires job { (job < J.Bipartite.jobs jobs.now) × (filled parents.old job ≡ true) }
-    requires state { Searching (J.Bipartite.jobs jobs.now) (J.Bipartite.width jobs.now) (J.Bipartite.holds jobs.now) matching.now.places.now matching.now.holders.now parents.old (entries queue.old slots.old) job 0 }
+    requires slots { J.jobs jobs.now ≤ length slots.old }
+    requires job { (job < J.jobs jobs.now) × (filled parents.old job ≡ true) }
+    requires state { Searching (J.jobs jobs.now) (J.width jobs.now) (J.holds jobs.now) matching.now.places.now matching.now.holders.now parents.old (entries queue.old slots.old) job 0 }
     ensures ready { Ready queue.new (length slots.new) }
-    ensures less { left (J.Bipartite.jobs jobs.now) parents.new (entries queue.new slots.new) ≤ left (J.Bipartite.jobs jobs.now) parents.old (entries queue.old slots.old) }
-    ensures state { MatchOption result (Searching (J.Bipartite.jobs jobs.now) (J.Bipartite.width jobs.now) (J.Bipartite.holds jobs.now) matching.now.places.now matching.now.holders.now parents.new (entries queue.new slots.new) (J.Bipartite.jobs jobs.now) 0) (λ p. Found (J.Bipartite.jobs jobs.now) (J.Bipartite.width jobs.now) (J.Bipartite.holds jobs.now) matching.now.places.now matching.now.holders.now parents.new job p) }
+    ensures less { left (J.jobs jobs.now) parents.new (entries queue.new slots.new) ≤ left (J.jobs jobs.now) parents.old (entries queue.old slots.old) }
+    ensures state { MatchOption result (Searching (J.jobs jobs.now) (J.width jobs.now) (J.holds jobs.now) matching.now.places.now matching.now.holders.now parents.new (entries queue.new slots.new) (J.jobs jobs.now) 0) (λ p. Found (J.jobs jobs.now) (J.width jobs.now) (J.holds jobs.now) matching.now.places.now matching.now.holders.now parents.new job p) }
 {
     let mut from = 0;
     while let Some(place) = jobs.next_from(job as usize, from) {
@@ -105,11 +105,11 @@ pub fn search<J: Bipartite>(
     parents: &mut [u16],
     slots: &mut [u16],
 ) -> Option<Opening>
-    requires few { (J.Bipartite.jobs jobs.now ≤ 65535) × (J.Bipartite.width jobs.now ≤ 2048) }
-    requires matched { Matched (J.Bipartite.jobs jobs.now) (J.Bipartite.width jobs.now) (J.Bipartite.holds jobs.now) matching.now.places.now matching.now.holders.now }
-    requires parents { length parents.old ≡ J.Bipartite.jobs jobs.now }
-    requires slots { J.Bipartite.jobs jobs.now ≤ length slots.old }
-    ensures { MatchOption result (Stalled (J.Bipartite.jobs jobs.now) (J.Bipartite.width jobs.now) (J.Bipartite.holds jobs.now) matching.now.places.now matching.now.holders.now parents.new) (λ o. Found (J.Bipartite.jobs jobs.now) (J.Bipartite.width jobs.now) (J.Bipartite.holds jobs.now) matching.now.places.now matching.now.holders.now parents.new o.job o.place) }
+    requires few { (J.jobs jobs.now ≤ 65535) × (J.width jobs.now ≤ 2048) }
+    requires matched { Matched (J.jobs jobs.now) (J.width jobs.now) (J.holds jobs.now) matching.now.places.now matching.now.holders.now }
+    requires parents { length parents.old ≡ J.jobs jobs.now }
+    requires slots { J.jobs jobs.now ≤ length slots.old }
+    ensures { MatchOption result (Stalled (J.jobs jobs.now) (J.width jobs.now) (J.holds jobs.now) matching.now.places.now matching.now.holders.now parents.new) (λ o. Found (J.jobs jobs.now) (J.width jobs.now) (J.holds jobs.now) matching.now.places.now matching.now.holders.now parents.new o.job o.place) }
 {
     let mut queue = start(matching.places, parents, slots);
     while let Some(job) = queue.pop_front(slots) {

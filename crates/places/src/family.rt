@@ -5,7 +5,7 @@ use crate::set::PlaceSet;
 
 // Strikes every place: no kind holds the largest number.
 pub fn empty<L: PlaceSet>(list: &mut L)
-    ensures { (p : ℕ) → has list.new p ≡ false }
+    ensures { (p : ℕ) → L.has list.new p ≡ false }
 {
     list.fix(u16::MAX);
 }

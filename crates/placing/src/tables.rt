@@ -116,7 +116,7 @@ impl<L: PlaceSet + Copy, const N: usize> Tables<L, N> {
         board: &Board<S>,
         rule: usize,
     ) -> Result<(), Stopped>
-        requires { S.Stage.shut board.now.stage }
+        requires { S.shut board.now.stage }
     {
         let found = board.group(
             &self.opened,

@@ -10,8 +10,8 @@ use refusals::Refusal;
 // Every rule is lawful for n jobs.
 pub fn check_rules<R: Rule>(rules: &[R], n: usize) -> Result<(), Refusal>
     requires { length rules.now ≤ 64 }
-    ensures refusal { refusal_of result ≡ first_fault (unlawful lawful n) 12 0 rules.now }
-    ensures lawful { OnOk result (All (λ x. lawful x n ≡ true) rules.now) }
+    ensures refusal { refusal_of result ≡ first_fault (unlawful R.lawful n) 12 0 rules.now }
+    ensures lawful { OnOk result (All (λ x. R.lawful x n ≡ true) rules.now) }
 {
     for (i, rule) in rules.iter().enumerate() {
         if !rule.is_lawful(n) {
@@ -24,7 +24,7 @@ pub fn check_rules<R: Rule>(rules: &[R], n: usize) -> Result<(), Refusal>
 // The held rules, and then an offered one as the next, are lawful for n jobs.
 pub fn check_offered<R: Rule>(rules: &[R], rule: &R, n: usize) -> Result<(), Refusal>
     requires { length rules.now ≤ 64 }
-    ensures { refusal_of result ≡ first_fault (unlawful lawful n) 12 0 (rules.now ++ rule.now ∷ []) }
+    ensures { refusal_of result ≡ first_fault (unlawful R.lawful n) 12 0 (rules.now ++ rule.now ∷ []) }
 {
     if let Err(refusal) = check_rules(rules, n) {
         return Err(refusal);

@@ -15,7 +15,7 @@ fn check_narrow<L: PlaceSet, R: Rule>(
     working: &[L],
     numbers: usize,
 ) -> Result<(), Refusal>
-    ensures { refusal_of result ≡ narrow_refusal n L.PlaceSet.limit (length working.now) numbers (R.Rule.lawful rule.now n) }
+    ensures { refusal_of result ≡ narrow_refusal n L.limit (length working.now) numbers (R.lawful rule.now n) }
 {
     if n == 0 || n > 256 {
         return Err(Refusal::JobCount);
@@ -37,8 +37,8 @@ pub fn narrow_family<L: PlaceSet + Copy, R: Rule>(
     working: &mut [L],
     numbers: &mut [u16],
 ) -> Result<(), Refusal>
-    ensures refusal { refusal_of result ≡ narrow_refusal (length lists.old) L.PlaceSet.limit (length working.old) (length numbers.old) (R.Rule.lawful rule.now (length lists.old)) }
-    ensures lists { MatchResult result (λ _. Narrowed (R.Rule.scope rule.now) (R.Rule.admits rule.now) (family L.PlaceSet.has lists.old) (family L.PlaceSet.has lists.new)) (λ _. lists.new ≡ lists.old) }
+    ensures refusal { refusal_of result ≡ narrow_refusal (length lists.old) L.limit (length working.old) (length numbers.old) (R.lawful rule.now (length lists.old)) }
+    ensures lists { MatchResult result (λ _. Narrowed (R.scope rule.now) (R.admits rule.now) (family L.has lists.old) (family L.has lists.new)) (λ _. lists.new ≡ lists.old) }
 {
     check_narrow(rule, lists.len(), working, numbers.len())?;
     rule.narrow(lists, numbers);

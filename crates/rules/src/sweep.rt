@@ -22,17 +22,17 @@ pub trait Search {
     fn supports<L: PlaceSet>(&self, lists: &[L], k: usize, p: u16) -> bool
         requires position { k < length (jobs self.now) }
         requires scope { Scope (length lists.now) (jobs self.now) }
-        requires held { family L.PlaceSet.has lists.now (slice_index (jobs self.now) k) p ≡ true }
-        ensures { Decides result (Support (jobs self.now) (accepts self.now) (family L.PlaceSet.has lists.now) k p) };
+        requires held { family L.has lists.now (slice_index (jobs self.now) k) p ≡ true }
+        ensures { Decides result (Support (jobs self.now) (accepts self.now) (family L.has lists.now) k p) };
 }
 
 // Strikes one place from one list of the scope where it has no support.
 fn sweep_place<L: PlaceSet, S: Search>(search: &S, lists: &mut [L], k: usize, p: u16)
-    requires position { k < length (S.Search.jobs search.now) }
-    requires scope { Scope (length lists.old) (S.Search.jobs search.now) }
-    requires held { family L.PlaceSet.has lists.old (slice_index (S.Search.jobs search.now) k) p ≡ true }
-    ensures trimmed { Trimmed (S.Search.jobs search.now) (S.Search.accepts search.now) (family L.PlaceSet.has lists.old) (family L.PlaceSet.has lists.new) }
-    ensures swept { SweptAt (S.Search.jobs search.now) (S.Search.accepts search.now) k p (family L.PlaceSet.has lists.old) (family L.PlaceSet.has lists.new) }
+    requires position { k < length (S.jobs search.now) }
+    requires scope { Scope (length lists.old) (S.jobs search.now) }
+    requires held { family L.has lists.old (slice_index (S.jobs search.now) k) p ≡ true }
+    ensures trimmed { Trimmed (S.jobs search.now) (S.accepts search.now) (family L.has lists.old) (family L.has lists.new) }
+    ensures swept { SweptAt (S.jobs search.now) (S.accepts search.now) k p (family L.has lists.old) (family L.has lists.new) }
 {
     if search.supports(lists, k, p) {
         return;
@@ -42,10 +42,10 @@ fn sweep_place<L: PlaceSet, S: Search>(search: &S, lists: &mut [L], k: usize, p:
 
 // Strikes from one list of the scope every place without a support.
 fn sweep_job<L: PlaceSet, S: Search>(search: &S, lists: &mut [L], k: usize)
-    requires position { k < length (S.Search.jobs search.now) }
-    requires scope { Scope (length lists.old) (S.Search.jobs search.now) }
-    ensures trimmed { Trimmed (S.Search.jobs search.now) (S.Search.accepts search.now) (family L.PlaceSet.has lists.old) (family L.PlaceSet.has lists.new) }
-    ensures swept { Swept (S.Search.jobs search.now) (S.Search.accepts search.now) k (family L.PlaceSet.has lists.old) (family L.PlaceSet.has lists.new) }
+    requires position { k < length (S.jobs search.now) }
+    requires scope { Scope (length lists.old) (S.jobs search.now) }
+    ensures trimmed { Trimmed (S.jobs search.now) (S.accepts search.now) (family L.has lists.old) (family L.has lists.new) }
+    ensures swept { Swept (S.jobs search.now) (S.accepts search.now) k (family L.has lists.old) (family L.has lists.new) }
 {
     let job = search.job(k) as usize;
     let mut from = 0;
@@ -57,8 +57,8 @@ fn sweep_job<L: PlaceSet, S: Search>(search: &S, lists: &mut [L], k: usize)
 
 // Narrows the family by a rule that is searched place by place.
 pub fn sweep<L: PlaceSet, S: Search>(search: &S, lists: &mut [L])
-    requires { Scope (length lists.old) (S.Search.jobs search.now) }
-    ensures { Narrowed (S.Search.jobs search.now) (S.Search.accepts search.now) (family L.PlaceSet.has lists.old) (family L.PlaceSet.has lists.new) }
+    requires { Scope (length lists.old) (S.jobs search.now) }
+    ensures { Narrowed (S.jobs search.now) (S.accepts search.now) (family L.has lists.old) (family L.has lists.new) }
 {
     for k in 0..search.arity() {
         sweep_job(search, lists, k);

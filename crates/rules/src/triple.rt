@@ -36,7 +36,7 @@ fn third_place(by: Third, p: u16, q: u16) -> Option<u16>
 // Whether p and q are completed by a place of the list.
 fn completes<L: PlaceSet>(list: &L, by: Third, p: u16, q: u16) -> bool
     requires { p + q < 65536 }
-    ensures { result ≡ wanted (third by p q) (L.PlaceSet.has list.now) }
+    ensures { result ≡ wanted (third by p q) (L.has list.now) }
 {
     match third_place(by, p, q) {
         Some(r) => list.contains(r),
@@ -46,8 +46,8 @@ fn completes<L: PlaceSet>(list: &L, by: Third, p: u16, q: u16) -> bool
 
 // Whether p and some place of the first list are completed by a place of the second.
 fn meets<L: PlaceSet>(first: &L, second: &L, by: Third, p: u16) -> bool
-    requires { p < L.PlaceSet.limit }
-    ensures { Decides result (Meets by p (L.PlaceSet.has first.now) (L.PlaceSet.has second.now)) }
+    requires { p < L.limit }
+    ensures { Decides result (Meets by p (L.has first.now) (L.has second.now)) }
 {
     let mut from = 0;
     while let Some(q) = first.next_from(from) {
@@ -63,8 +63,8 @@ fn meets<L: PlaceSet>(first: &L, second: &L, by: Third, p: u16) -> bool
 pub fn jobs_meet<L: PlaceSet>(lists: &[L], first: u16, second: u16, by: Third, p: u16) -> bool
     requires first { first < length lists.now }
     requires second { second < length lists.now }
-    requires place { p < L.PlaceSet.limit }
-    ensures { Decides result (Meets by p (family L.PlaceSet.has lists.now first) (family L.PlaceSet.has lists.now second)) }
+    requires place { p < L.limit }
+    ensures { Decides result (Meets by p (family L.has lists.now first) (family L.has lists.now second)) }
 {
     meets(&lists[first as usize], &lists[second as usize], by, p)
 }
@@ -73,8 +73,8 @@ pub fn jobs_meet<L: PlaceSet>(lists: &[L], first: u16, second: u16, by: Third, p
 pub fn jobs_differ<L: PlaceSet>(lists: &[L], first: u16, second: u16, p: u16) -> bool
     requires first { first < length lists.now }
     requires second { second < length lists.now }
-    requires place { p < L.PlaceSet.limit }
-    ensures { Decides result (Meets Third.Sum p (family L.PlaceSet.has lists.now first) (family L.PlaceSet.has lists.now second) ⊎ Meets Third.Sum p (family L.PlaceSet.has lists.now second) (family L.PlaceSet.has lists.now first)) }
+    requires place { p < L.limit }
+    ensures { Decides result (Meets Third.Sum p (family L.has lists.now first) (family L.has lists.now second) ⊎ Meets Third.Sum p (family L.has lists.now second) (family L.has lists.now first)) }
 {
     if jobs_meet(lists, first, second, Third::Sum, p) {
         return true;

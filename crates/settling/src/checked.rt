@@ -18,8 +18,8 @@ fn check_settle<L: PlaceSet, R: Rule>(
     numbers: usize,
     wake_ups: usize,
 ) -> Result<(), Refusal>
-    ensures refusal { refusal_of result ≡ settle_refusal (length lists.now) L.PlaceSet.limit numbers wake_ups R.Rule.lawful rules.now }
-    ensures passed { OnOk result (Admissible (length lists.now) L.PlaceSet.limit numbers wake_ups R.Rule.lawful rules.now) }
+    ensures refusal { refusal_of result ≡ settle_refusal (length lists.now) L.limit numbers wake_ups R.lawful rules.now }
+    ensures passed { OnOk result (Admissible (length lists.now) L.limit numbers wake_ups R.lawful rules.now) }
 {
     let n = lists.len();
     if n == 0 || n > 256 {
@@ -43,10 +43,10 @@ pub fn settle_family<L: PlaceSet + Copy, R: Rule>(
     numbers: &mut [u16],
     wake_ups: &mut [WakeUp],
 ) -> Result<Option<u16>, Refusal>
-    ensures refusal { refusal_of result ≡ settle_refusal (length lists.old) L.PlaceSet.limit (length numbers.old) (length wake_ups.old) R.Rule.lawful rules.now }
-    ensures lists { MatchResult result (λ _. Settled R.Rule.scope R.Rule.admits rules.now (family L.PlaceSet.has lists.old) (family L.PlaceSet.has lists.new)) (λ _. lists.new ≡ lists.old) }
-    ensures lowest { IfOk result (λ answer. Lowest R.Rule.scope R.Rule.admits rules.now (length lists.old) (family L.PlaceSet.has lists.old) answer) }
-    ensures placings { KeepsPlacings R.Rule.scope R.Rule.admits rules.now (length lists.old) (family L.PlaceSet.has lists.old) (family L.PlaceSet.has lists.new) }
+    ensures refusal { refusal_of result ≡ settle_refusal (length lists.old) L.limit (length numbers.old) (length wake_ups.old) R.lawful rules.now }
+    ensures lists { MatchResult result (λ _. Settled R.scope R.admits rules.now (family L.has lists.old) (family L.has lists.new)) (λ _. lists.new ≡ lists.old) }
+    ensures lowest { IfOk result (λ answer. Lowest R.scope R.admits rules.now (length lists.old) (family L.has lists.old) answer) }
+    ensures placings { KeepsPlacings R.scope R.admits rules.now (length lists.old) (family L.has lists.old) (family L.has lists.new) }
 {
     check_settle(rules, lists, numbers.len(), wake_ups.len())?;
     Ok(settle(rules, lists, numbers, wake_ups))

@@ -8,7 +8,7 @@ use places::PlaceSet;
 // Notes the count of each list.
 pub fn note_counts<L: PlaceSet>(lists: &[L], noted: &mut [u16])
     requires { length lists.now ≤ length noted.old }
-    ensures { Noted (length lists.now) L.PlaceSet.limit (family L.PlaceSet.has lists.now) noted.new }
+    ensures { Noted (length lists.now) L.limit (family L.has lists.now) noted.new }
 {
     for (j, list) in lists.iter().enumerate() {
         noted[j] = list.count();

@@ -22,11 +22,11 @@ pub fn settle<L: PlaceSet + Copy, R: Rule>(
     requires rules { length rules.now ≤ 64 }
     requires slots { length rules.now ≤ length wake_ups.old }
     requires few { length lists.old ≤ 256 }
-    requires lawful { All (λ r. R.Rule.lawful r (length lists.old) ≡ true) rules.now }
-    requires memory { 8 * (length lists.old + L.PlaceSet.limit) ≤ length numbers.old }
-    ensures settled { Settled R.Rule.scope R.Rule.admits rules.now (family L.PlaceSet.has lists.old) (family L.PlaceSet.has lists.new) }
-    ensures lowest { Lowest R.Rule.scope R.Rule.admits rules.now (length lists.old) (family L.PlaceSet.has lists.old) result }
-    ensures placings { KeepsPlacings R.Rule.scope R.Rule.admits rules.now (length lists.old) (family L.PlaceSet.has lists.old) (family L.PlaceSet.has lists.new) }
+    requires lawful { All (λ r. R.lawful r (length lists.old) ≡ true) rules.now }
+    requires memory { 8 * (length lists.old + L.limit) ≤ length numbers.old }
+    ensures settled { Settled R.scope R.admits rules.now (family L.has lists.old) (family L.has lists.new) }
+    ensures lowest { Lowest R.scope R.admits rules.now (length lists.old) (family L.has lists.old) result }
+    ensures placings { KeepsPlacings R.scope R.admits rules.now (length lists.old) (family L.has lists.old) (family L.has lists.new) }
 {
     let n = lists.len();
     let (noted, work) = numbers.split_at_mut(n);

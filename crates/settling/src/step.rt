@@ -14,9 +14,9 @@ use rules::Rule;
 fn narrow_by<L: PlaceSet + Copy, R: Rule>(rules: &[R], k: u16, lists: &mut [L], work: &mut [u16])
     requires known { k < length rules.now }
     requires few { length lists.old ≤ 256 }
-    requires lawful { AllLawful R.Rule.lawful rules.now (length lists.old) }
-    requires memory { 7 * (length lists.old + L.PlaceSet.limit) ≤ length work.old }
-    ensures { NarrowedBy R.Rule.scope R.Rule.admits rules.now k (family L.PlaceSet.has lists.old) (family L.PlaceSet.has lists.new) }
+    requires lawful { AllLawful R.lawful rules.now (length lists.old) }
+    requires memory { 7 * (length lists.old + L.limit) ≤ length work.old }
+    ensures { NarrowedBy R.scope R.admits rules.now k (family L.has lists.old) (family L.has lists.new) }
 {
     rules[k as usize].narrow(lists, work);
 }
@@ -31,17 +31,17 @@ fn step<L: PlaceSet + Copy, R: Rule>(
     slots: &mut [WakeUp],
     k: u16,
 )
-    requires waiting { Waiting R.Rule.scope rules.now agenda.old slots.old }
+    requires waiting { Waiting R.scope rules.now agenda.old slots.old }
     requires known { k < length rules.now }
     requires few { length lists.old ≤ 256 }
-    requires lawful { AllLawful R.Rule.lawful rules.now (length lists.old) }
+    requires lawful { AllLawful R.lawful rules.now (length lists.old) }
     requires noted { length lists.old ≤ length noted.old }
-    requires memory { 7 * (length lists.old + L.PlaceSet.limit) ≤ length work.old }
-    ensures waiting { Waiting R.Rule.scope rules.now agenda.new slots.new }
-    ensures narrowed { NarrowedBy R.Rule.scope R.Rule.admits rules.now k (family L.PlaceSet.has lists.old) (family L.PlaceSet.has lists.new) }
-    ensures roused { Roused R.Rule.scope rules.now (Changed L.PlaceSet.limit (family L.PlaceSet.has lists.new) noted.old) (length lists.new) agenda.old agenda.new }
-    ensures called { Called R.Rule.scope rules.now (ByChange R.Rule.scope rules.now (Changed L.PlaceSet.limit (family L.PlaceSet.has lists.new) noted.old) (length lists.new) agenda.old) (line agenda.old slots.old) (line agenda.new slots.new) }
-    ensures noted { Noted (length lists.new) L.PlaceSet.limit (family L.PlaceSet.has lists.new) noted.new }
+    requires memory { 7 * (length lists.old + L.limit) ≤ length work.old }
+    ensures waiting { Waiting R.scope rules.now agenda.new slots.new }
+    ensures narrowed { NarrowedBy R.scope R.admits rules.now k (family L.has lists.old) (family L.has lists.new) }
+    ensures roused { Roused R.scope rules.now (Changed L.limit (family L.has lists.new) noted.old) (length lists.new) agenda.old agenda.new }
+    ensures called { Called R.scope rules.now (ByChange R.scope rules.now (Changed L.limit (family L.has lists.new) noted.old) (length lists.new) agenda.old) (line agenda.old slots.old) (line agenda.new slots.new) }
+    ensures noted { Noted (length lists.new) L.limit (family L.has lists.new) noted.new }
 {
     narrow_by(rules, k, lists, work);
     wake_changed(agenda, slots, rules, lists, noted);
@@ -56,15 +56,15 @@ pub fn run<L: PlaceSet + Copy, R: Rule>(
     agenda: &mut Agenda,
     slots: &mut [WakeUp],
 )
-    requires waiting { Waiting R.Rule.scope rules.now agenda.old slots.old }
+    requires waiting { Waiting R.scope rules.now agenda.old slots.old }
     requires all { (i : ℕ) → i < length rules.now → waits agenda.old i ≡ true }
     requires few { length lists.old ≤ 256 }
-    requires lawful { AllLawful R.Rule.lawful rules.now (length lists.old) }
+    requires lawful { AllLawful R.lawful rules.now (length lists.old) }
     requires size { length noted.old ≡ length lists.old }
-    requires noted { Noted (length lists.old) L.PlaceSet.limit (family L.PlaceSet.has lists.old) noted.old }
-    requires memory { 7 * (length lists.old + L.PlaceSet.limit) ≤ length work.old }
-    ensures settled { Settled R.Rule.scope R.Rule.admits rules.now (family L.PlaceSet.has lists.old) (family L.PlaceSet.has lists.new) }
-    ensures noted { Noted (length lists.new) L.PlaceSet.limit (family L.PlaceSet.has lists.new) noted.new }
+    requires noted { Noted (length lists.old) L.limit (family L.has lists.old) noted.old }
+    requires memory { 7 * (length lists.old + L.limit) ≤ length work.old }
+    ensures settled { Settled R.scope R.admits rules.now (family L.has lists.old) (family L.has lists.new) }
+    ensures noted { Noted (length lists.new) L.limit (family L.has lists.new) noted.new }
 {
     while let Some(wake_up) = agenda.take_next(slots) {
         step(rules, lists, noted, work, agenda, slots, wake_up.rule);

@@ -12,13 +12,13 @@ use rules::Rule;
 
 // Has each rule wait by the first job of its scope.
 pub fn wake_all<R: Rule>(agenda: &mut Agenda, slots: &mut [WakeUp], rules: &[R])
-    requires waiting { Waiting R.Rule.scope rules.now agenda.old slots.old }
+    requires waiting { Waiting R.scope rules.now agenda.old slots.old }
     requires empty { line agenda.old slots.old ≡ [] }
     requires none { (i : ℕ) → waits agenda.old i ≡ false }
-    requires some { All (λ r. 0 < length (R.Rule.scope r)) rules.now }
-    ensures waiting { Waiting R.Rule.scope rules.now agenda.new slots.new }
+    requires some { All (λ r. 0 < length (R.scope r)) rules.now }
+    ensures waiting { Waiting R.scope rules.now agenda.new slots.new }
     ensures all { (i : ℕ) → i < length rules.now → waits agenda.new i ≡ true }
-    ensures line { line agenda.new slots.new ≡ first_wake_ups R.Rule.scope 0 rules.now }
+    ensures line { line agenda.new slots.new ≡ first_wake_ups R.scope 0 rules.now }
 {
     for (i, rule) in rules.iter().enumerate() {
         agenda.wake(slots, i as u16, rule.first_job());
@@ -27,10 +27,10 @@ pub fn wake_all<R: Rule>(agenda: &mut Agenda, slots: &mut [WakeUp], rules: &[R])
 
 // Has every rule wait whose scope has a job.
 fn wake_for_job<R: Rule>(agenda: &mut Agenda, slots: &mut [WakeUp], rules: &[R], job: u16)
-    requires { Waiting R.Rule.scope rules.now agenda.old slots.old }
-    ensures waiting { Waiting R.Rule.scope rules.now agenda.new slots.new }
-    ensures woken { Woken R.Rule.scope rules.now job agenda.old agenda.new }
-    ensures called { Called R.Rule.scope rules.now (ByJob agenda.old job) (line agenda.old slots.old) (line agenda.new slots.new) }
+    requires { Waiting R.scope rules.now agenda.old slots.old }
+    ensures waiting { Waiting R.scope rules.now agenda.new slots.new }
+    ensures woken { Woken R.scope rules.now job agenda.old agenda.new }
+    ensures called { Called R.scope rules.now (ByJob agenda.old job) (line agenda.old slots.old) (line agenda.new slots.new) }
 {
     for (i, rule) in rules.iter().enumerate() {
         if rule.involves(job) {
@@ -47,13 +47,13 @@ pub fn wake_changed<L: PlaceSet, R: Rule>(
     lists: &[L],
     noted: &mut [u16],
 )
-    requires waiting { Waiting R.Rule.scope rules.now agenda.old slots.old }
+    requires waiting { Waiting R.scope rules.now agenda.old slots.old }
     requires few { length lists.now ≤ 256 }
     requires noted { length lists.now ≤ length noted.old }
-    ensures waiting { Waiting R.Rule.scope rules.now agenda.new slots.new }
-    ensures roused { Roused R.Rule.scope rules.now (Changed L.PlaceSet.limit (family L.PlaceSet.has lists.now) noted.old) (length lists.now) agenda.old agenda.new }
-    ensures called { Called R.Rule.scope rules.now (ByChange R.Rule.scope rules.now (Changed L.PlaceSet.limit (family L.PlaceSet.has lists.now) noted.old) (length lists.now) agenda.old) (line agenda.old slots.old) (line agenda.new slots.new) }
-    ensures noted { Noted (length lists.now) L.PlaceSet.limit (family L.PlaceSet.has lists.now) noted.new }
+    ensures waiting { Waiting R.scope rules.now agenda.new slots.new }
+    ensures roused { Roused R.scope rules.now (Changed L.limit (family L.has lists.now) noted.old) (length lists.now) agenda.old agenda.new }
+    ensures called { Called R.scope rules.now (ByChange R.scope rules.now (Changed L.limit (family L.has lists.now) noted.old) (length lists.now) agenda.old) (line agenda.old slots.old) (line agenda.new slots.new) }
+    ensures noted { Noted (length lists.now) L.limit (family L.has lists.now) noted.new }
 {
     for (j, list) in lists.iter().enumerate() {
         if note_count(noted, j, list.count()) {

@@ -8,11 +8,11 @@ settle-requires g c = record {
   rules = c.requires.rules;
   slots = c.requires.slots;
   few = omega arith;
-  lawful = subst (λ (n : ℕ). All (λ r. g.R.Rule.lawful r n ≡ true) c.args.rules.now) (sym c.write-current.auto.lists) c.requires.lawful;
+  lawful = subst (λ (n : ℕ). All (λ r. g.R.Rule.lawful r n ≡ true) c.args.rules.now) (sym c.write_current.auto.lists) c.requires.lawful;
   memory = omega arith;
 }
 
 pub returns : goal.returns
 returns g c =
     reached g.L.PlaceSet.has g.R.Rule.scope g.R.Rule.admits c.args.rules.now _ _ _ _ c.settle.new.lists c.settle.result
-    c.write-current.auto.lists c.write-current.ensures c.settle.ensures.settled c.settle.ensures.lowest c.settle.ensures.placings
+    c.write_current.auto.lists c.write_current.ensures c.settle.ensures.settled c.settle.ensures.lowest c.settle.ensures.placings

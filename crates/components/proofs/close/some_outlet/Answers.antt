@@ -13,7 +13,7 @@ loop-x-preserved g c y low l h =
     let s = c.args.jobs.now in
     elim (ℕ_discrete y c.loop-x.x) [
       | yes e ↦
-          not_from_Decides _ c.has-outlet.ensures c.if-has-outlet.false
+          not_from_Decides _ c.has_outlet.ensures c.if-has_outlet.false
           (subst (λ (k : ℕ). HasOutlet (setting (j.jobs s) (j.width s) (j.holds s) c.args.full.now.places.now c.args.full.now.holders.now) c.args.index.now c.args.labels.now (at c.args.nodes.now k)) e h)
       | no ne ↦ c.loop-x.invariant y low (omega arith) h
     ]

@@ -17,7 +17,7 @@ returns-then-cuts-s g c =
     let o = over g c.args.jobs.now c.args.full.now.places.now c.args.full.now.holders.now in
     let t = tables c.args.cursors.now c.args.index.now c.args.labels.now c.args.nodes.now c.args.cuts.now c.args.path.now in
     record {
-      state = walked_pops o t c.args.s c.requires.state c.requires.depth (spent_from o c.args.cursors.now _ c.in-default.ensures.first) c.if-cuts-s.true;
+      state = walked_pops o t c.args.s c.requires.state c.requires.depth (spent_from o c.args.cursors.now _ c.in_default.ensures.first) c.if-cuts-s.true;
       seen = λ a h. h;
       less = omega arith;
     }
@@ -38,24 +38,24 @@ close-requires g c =
       tables = (k.fit.index, k.fit.labels);
     }
 
-pub returns-in-default : goal.returns-in-default
-returns-in-default g c =
+pub returns-in_default : goal.returns-in_default
+returns-in_default g c =
     let o = over g c.args.jobs.now c.args.full.now.places.now c.args.full.now.holders.now in
     let t = tables c.args.cursors.now c.args.index.now c.args.labels.now c.args.nodes.now c.args.cuts.now c.args.path.now in
     record {
       state = walked_closes o c.requires.full t c.args.s c.requires.state c.requires.depth c.close.new.index c.close.new.labels c.close.result c.close.auto.index c.close.auto.labels
-          (spent_from o c.args.cursors.now _ c.in-default.ensures.first) c.if-cuts-s.false c.close.ensures;
+          (spent_from o c.args.cursors.now _ c.in_default.ensures.first) c.if-cuts-s.false c.close.ensures;
       seen = seen_closed o c.requires.full t c.args.s c.requires.state c.requires.depth c.close.new.index c.close.new.labels c.close.result c.close.ensures;
       less = omega (arith, ap (λ h. h.depth) c.close.ensures.heights);
     }
 
-pub returns-in-default-holder-of : goal.returns-in-default-holder-of
-returns-in-default-holder-of g c =
+pub returns-in_default-holder_of : goal.returns-in_default-holder_of
+returns-in_default-holder_of g c =
     let o = over g c.args.jobs.now c.args.full.now.places.now c.args.full.now.holders.now in
     let t = tables c.args.cursors.now c.args.index.now c.args.labels.now c.args.nodes.now c.args.cuts.now c.args.path.now in
     let (low, h, none) = c.in-Some.ensures.first in
     record {
-      state = walked_past o c.requires.full t c.args.s c.requires.state c.requires.depth c.in-Some.place low none c.in-default-holder-of.ensures;
+      state = walked_past o c.requires.full t c.args.s c.requires.state c.requires.depth c.in-Some.place low none c.in_default-holder_of.ensures;
       seen = λ a h. h;
       less = omega (arith, effort_falls o c.requires.full c.args.cursors.now c.requires.state.fit.cursors _ c.in-Some.place (last_job o t c.args.s c.requires.state c.requires.depth) low none c.args.s.depth c.in-Some.ensures.within);
     }
@@ -67,8 +67,8 @@ follow-requires g c =
     let s = c.args.s in
     let k = c.requires.state in
     let (low, h, none) = c.in-Some.ensures.first in
-    let (e, ne) = c.in-Some-holder-of.ensures in
-    let b = c.in-Some-holder-of.holder in
+    let (e, ne) = c.in-Some-holder_of.ensures in
+    let b = c.in-Some-holder_of.holder in
     let lb : b < o.jobs = holder_job o c.requires.full t s k c.requires.depth c.in-Some.place low none b c.in-Some.ensures.within h e ne in
     let free : at c.args.index.now b ≡ 65535 → s.next + s.top < o.jobs = λ z. room o t s k b lb (none_filled c.args.index.now b z) in
     let nc : s.cuts ≤ s.top = cuts_few o t s k in
@@ -90,10 +90,10 @@ returns g c =
     let f = c.requires.full in
     let d = c.requires.depth in
     let p = c.in-Some.place in
-    let b = c.in-Some-holder-of.holder in
+    let b = c.in-Some-holder_of.holder in
     let (low, h, none) = c.in-Some.ensures.first in
     let lp = c.in-Some.ensures.within in
-    let (e, ne) = c.in-Some-holder-of.ensures in
+    let (e, ne) = c.in-Some-holder_of.ensures in
     let r = c.follow.result in
     record {
       state = walked_step o f t s k d p low none b lp h e ne c.follow.new.index c.follow.new.nodes c.follow.new.cuts c.follow.new.path r c.follow.ensures;

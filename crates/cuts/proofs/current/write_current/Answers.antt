@@ -5,7 +5,7 @@ use Rattle.cuts.specs.Current.{current}
 use Rattle.cuts.proofs.current.write_current.Goals as goal
 
 pub loop-cut-init : goal.loop-cut-init
-loop-cut-init g c = ap (λ xs. current (family g.L.PlaceSet.has xs) c.args.cuts.now) c.copy-from-slice.ensures.after
+loop-cut-init g c = ap (λ xs. current (family g.L.PlaceSet.has xs) c.args.cuts.now) c.copy_from_slice.ensures.after
 
 pub loop-cut-preserved : goal.loop-cut-preserved
 loop-cut-preserved g c =

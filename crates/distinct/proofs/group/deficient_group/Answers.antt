@@ -5,32 +5,32 @@ use Rattle.distinct.specs.Spreads.{count_is, count_few, job_below, last_below}
 use Rattle.distinct.proofs.Tellings.{told}
 use Rattle.distinct.proofs.group.deficient_group.Goals as goal
 
-pub split-at-mut-places-requires : goal.split-at-mut-places-requires
-split-at-mut-places-requires g c = omega (arith, count_few c.args.jobs.now (length c.args.lists.now) c.requires.scope, c.requires.memory)
+pub split_at_mut-places-requires : goal.split_at_mut-places-requires
+split_at_mut-places-requires g c = omega (arith, count_few c.args.jobs.now (length c.args.lists.now) c.requires.scope, c.requires.memory)
 
-pub split-at-mut-holders-requires : goal.split-at-mut-holders-requires
-split-at-mut-holders-requires g c = omega (arith, count_few c.args.jobs.now (length c.args.lists.now) c.requires.scope, c.requires.memory)
+pub split_at_mut-holders-requires : goal.split_at_mut-holders-requires
+split_at_mut-holders-requires g c = omega (arith, count_few c.args.jobs.now (length c.args.lists.now) c.requires.scope, c.requires.memory)
 
-pub split-at-mut-parents-requires : goal.split-at-mut-parents-requires
-split-at-mut-parents-requires g c = omega (arith, count_few c.args.jobs.now (length c.args.lists.now) c.requires.scope, c.requires.memory)
+pub split_at_mut-parents-requires : goal.split_at_mut-parents-requires
+split_at_mut-parents-requires g c = omega (arith, count_few c.args.jobs.now (length c.args.lists.now) c.requires.scope, c.requires.memory)
 
-pub split-at-mut-slots-requires : goal.split-at-mut-slots-requires
-split-at-mut-slots-requires g c = omega (arith, count_few c.args.jobs.now (length c.args.lists.now) c.requires.scope, c.requires.memory)
+pub split_at_mut-slots-requires : goal.split_at_mut-slots-requires
+split_at_mut-slots-requires g c = omega (arith, count_few c.args.jobs.now (length c.args.lists.now) c.requires.scope, c.requires.memory)
 
-pub invariant-of-match-jobs : goal.invariant-of-match-jobs
-invariant-of-match-jobs g c =
+pub invariant-of-match_jobs : goal.invariant-of-match_jobs
+invariant-of-match_jobs g c =
     let d = c.args.jobs.now in
     let n = length c.args.lists.now in
     (omega (arith, count_few d n c.requires.scope, c.requires.few), (last_below d n c.requires.scope, tt))
 
-pub list-marked-requires : goal.list-marked-requires
-list-marked-requires g c =
+pub list_marked-requires : goal.list_marked-requires
+list_marked-requires g c =
     let d = c.args.jobs.now in
     let n = length c.args.lists.now in
     let few : d.count ≤ n = count_few d n c.requires.scope in
     record {
       few = omega (arith, c.requires.few);
-      marks = c.match-jobs.auto.parents ∙ c.split-at-mut-parents.ensures.front-len;
+      marks = c.match_jobs.auto.parents ∙ c.split_at_mut-parents.ensures.front-len;
       small = λ i l. omega (arith, job_below d n c.requires.scope i l, c.requires.few);
       table = omega (arith, c.requires.table);
     }
@@ -39,7 +39,7 @@ pub returns : goal.returns
 returns g c =
     let d = c.args.jobs.now in
     let n = length c.args.lists.now in
-    told n d.count g.L.PlaceSet.limit (family g.L.PlaceSet.has c.args.lists.now) (jobs_of d) c.match-jobs.new.places c.match-jobs.new.holders c.match-jobs.new.parents
-    c.requires.scope (count_is d n c.requires.scope) c.match-jobs.ensures c.args.table.now c.list-marked.new.table c.list-marked.result c.count-none.result
-    (c.match-jobs.auto.places ∙ c.split-at-mut-places.ensures.front-len) c.list-marked.ensures.listed c.list-marked.ensures.rest
-    (omega (arith, c.list-marked.ensures.len, c.list-marked.auto.table)) c.count-none.ensures
+    told n d.count g.L.PlaceSet.limit (family g.L.PlaceSet.has c.args.lists.now) (jobs_of d) c.match_jobs.new.places c.match_jobs.new.holders c.match_jobs.new.parents
+    c.requires.scope (count_is d n c.requires.scope) c.match_jobs.ensures c.args.table.now c.list_marked.new.table c.list_marked.result c.count_none.result
+    (c.match_jobs.auto.places ∙ c.split_at_mut-places.ensures.front-len) c.list_marked.ensures.listed c.list_marked.ensures.rest
+    (omega (arith, c.list_marked.ensures.len, c.list_marked.auto.table)) c.count_none.ensures

@@ -14,8 +14,8 @@ loop-i-preserved c =
     let i = c.loop-i.i in
     elim c.if-marks-i.branch [
       | then-marks-i w ↦
-          listed_more (jobs_of r) (filled xs) c.args.table.now c.loop-i.table c.if-marks-i.table c.loop-i.len c.if-marks-i.len i w.job-at.result (omega (arith, c.requires.table, c.requires.marks))
-          (w.job-at.ensures ∙ sym (spread_at r.first r.step r.count i (omega (arith, c.requires.marks)))) (some_filled xs i w.if-marks-i.true) c.loop-i.invariant
+          listed_more (jobs_of r) (filled xs) c.args.table.now c.loop-i.table c.if-marks-i.table c.loop-i.len c.if-marks-i.len i w.job_at.result (omega (arith, c.requires.table, c.requires.marks))
+          (w.job_at.ensures ∙ sym (spread_at r.first r.step r.count i (omega (arith, c.requires.marks)))) (some_filled xs i w.if-marks-i.true) c.loop-i.invariant
           (w.table-is ∙ w.append-len.ensures.table) (w.len-is ∙ w.append-len.ensures.len)
       | else-marks-i w ↦
           listed_same (jobs_of r) (filled xs) c.args.table.now c.loop-i.table c.if-marks-i.table c.loop-i.len c.if-marks-i.len i (none_filled xs i w.if-marks-i.false) c.loop-i.invariant w.table-is w.len-is

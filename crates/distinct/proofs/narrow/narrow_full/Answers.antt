@@ -9,8 +9,8 @@ use Rattle.distinct.proofs.narrow.narrow_full.Goals as goal
 pub invariant-of-components : goal.invariant-of-components
 invariant-of-components g c = (c.requires.few, (last_below c.args.jobs.now (length c.args.lists.now) c.requires.scope, tt))
 
-pub sift-all-requires : goal.sift-all-requires
-sift-all-requires g c =
+pub sift_all-requires : goal.sift_all-requires
+sift_all-requires g c =
     let d = c.args.jobs.now in
     let f = c.requires.full in
     let (lp, lc, lm, ln) = c.requires.tables in
@@ -20,7 +20,7 @@ sift-all-requires g c =
       tables = record {
         places_fit = omega (arith, lp);
         holders_fit = f.matched.holders_fit;
-        labels_fit = omega (arith, c.components.auto.labels, c.split-at-mut-labels.ensures.front-len);
+        labels_fit = omega (arith, c.components.auto.labels, c.split_at_mut-labels.ensures.front-len);
         marks_fit = omega (arith, c.components.auto.index, lm);
         jobs = λ p l ne. (f.matched.back p l ne).0;
       };
@@ -31,6 +31,6 @@ returns g c =
     let d = c.args.jobs.now in
     let has = g.L.PlaceSet.has in
     let limit = g.L.PlaceSet.limit in
-    narrowed_full (jobs_of d) d.count limit (count_is d (length c.args.lists.now) c.requires.scope) (family has c.args.lists.now) (family has c.sift-all.new.lists)
+    narrowed_full (jobs_of d) d.count limit (count_is d (length c.args.lists.now) c.requires.scope) (family has c.args.lists.now) (family has c.sift_all.new.lists)
     (family_all has (λ p. p < limit) g.met.L.PlaceSet.within c.args.lists.now) c.args.places.now c.args.holders.now c.components.new.labels c.components.new.index
-    c.requires.full c.components.ensures c.sift-all.ensures
+    c.requires.full c.components.ensures c.sift_all.ensures

@@ -12,4 +12,4 @@ pub returns-then-step-eq0 : goal.returns-then-step-eq0
 returns-then-step-eq0 c = still_stands c.args.first c.args.step c.args.count c.args.job c.if-step-eq0.true (omega arith)
 
 pub returns : goal.returns
-returns c = c.is-multiple.ensures ∙ step_stands c.args.first c.args.step c.args.count c.args.job c.if-job-first.false (omega arith)
+returns c = c.is_multiple.ensures ∙ step_stands c.args.first c.args.step c.args.count c.args.job c.if-job-first.false (omega arith)

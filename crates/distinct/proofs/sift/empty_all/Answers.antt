@@ -11,8 +11,8 @@ loop-i-preserved g c =
     let has = g.L.PlaceSet.has in
     let n = length c.args.lists.now in
     let i = c.loop-i.i in
-    let x = get_or c.loop-i.lists c.job-at.result c.index-lists-job-at.result in
-    sifted_more has (jobs_of d) i (λ k q. false) (family has c.args.lists.now) c.loop-i.lists c.job-at.result c.fix.new.self c.index-lists-job-at.result
-    (λ k l. jobs_apart d n c.requires.scope k i l c.loop-i-test.true) (c.job-at.ensures ∙ job_is d n c.requires.scope i c.loop-i-test.true)
-    (omega (arith, c.job-at.ensures, c.requires.fits i c.loop-i-test.true, c.loop-i.auto.lists)) c.loop-i.invariant
+    let x = get_or c.loop-i.lists c.job_at.result c.index-lists-job_at.result in
+    sifted_more has (jobs_of d) i (λ k q. false) (family has c.args.lists.now) c.loop-i.lists c.job_at.result c.fix.new.self c.index-lists-job_at.result
+    (λ k l. jobs_apart d n c.requires.scope k i l c.loop-i-test.true) (c.job_at.ensures ∙ job_is d n c.requires.scope i c.loop-i-test.true)
+    (omega (arith, c.job_at.ensures, c.requires.fits i c.loop-i-test.true, c.loop-i.auto.lists)) c.loop-i.invariant
     (fixed_none (has x) g.L.PlaceSet.limit g.met.L.PlaceSet.bounded.1 (g.met.L.PlaceSet.within x) (has c.fix.new.self) c.fix.ensures.after)

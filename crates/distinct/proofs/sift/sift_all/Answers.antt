@@ -13,9 +13,9 @@ loop-i-preserved g c =
     let has = g.L.PlaceSet.has in
     let n = length c.args.lists.now in
     let i = c.loop-i.i in
-    sifted_more has (jobs_of d) i (stays v.places.now v.holders.now v.labels.now v.marks.now) (family has c.args.lists.now) c.loop-i.lists c.job-at.result c.sift.new.list c.index-lists-job-at.result
-    (λ k l. jobs_apart d n c.requires.scope k i l c.loop-i-test.true) (c.job-at.ensures ∙ job_is d n c.requires.scope i c.loop-i-test.true)
-    (omega (arith, c.job-at.ensures, c.requires.fits i c.loop-i-test.true, c.loop-i.auto.lists)) c.loop-i.invariant c.sift.ensures
+    sifted_more has (jobs_of d) i (stays v.places.now v.holders.now v.labels.now v.marks.now) (family has c.args.lists.now) c.loop-i.lists c.job_at.result c.sift.new.list c.index-lists-job_at.result
+    (λ k l. jobs_apart d n c.requires.scope k i l c.loop-i-test.true) (c.job_at.ensures ∙ job_is d n c.requires.scope i c.loop-i-test.true)
+    (omega (arith, c.job_at.ensures, c.requires.fits i c.loop-i-test.true, c.loop-i.auto.lists)) c.loop-i.invariant c.sift.ensures
 
 pub returns : goal.returns
 returns g c =

@@ -14,7 +14,7 @@ returns-in-Ok-trial g c =
     let log = c.args.log.now in
     let standing = c.args.standing.now in
     let group = c.args.group.now in
-    let l = lengths (length opened) (length rules) (length log) (length standing) (length group) (length c.args.working.now) (length c.args.numbers.now) (length c.args.wake-ups.now) in
+    let l = lengths (length opened) (length rules) (length log) (length standing) (length group) (length c.args.working.now) (length c.args.numbers.now) (length c.args.wake_ups.now) in
     let st = c.args.board.stage in
     record {
       same = search rules;
@@ -30,7 +30,7 @@ returns-in-Ok-group g c =
     let log = c.args.log.now in
     let standing = c.args.standing.now in
     let group = c.args.group.now in
-    let l = lengths (length opened) (length rules) (length log) (length standing) (length group) (length c.args.working.now) (length c.args.numbers.now) (length c.args.wake-ups.now) in
+    let l = lengths (length opened) (length rules) (length log) (length standing) (length group) (length c.args.working.now) (length c.args.numbers.now) (length c.args.wake_ups.now) in
     let st = c.args.board.stage in
     record {
       same = search rules;
@@ -46,7 +46,7 @@ returns-in-Err-settle g c =
     let log = c.args.log.now in
     let standing = c.args.standing.now in
     let group = c.args.group.now in
-    let l = lengths (length opened) (length rules) (length log) (length standing) (length group) (length c.args.working.now) (length c.args.numbers.now) (length c.args.wake-ups.now) in
+    let l = lengths (length opened) (length rules) (length log) (length standing) (length group) (length c.args.working.now) (length c.args.numbers.now) (length c.args.wake_ups.now) in
     let st = c.args.board.stage in
     let e = c.in-Err-settle.ensures in
     record {

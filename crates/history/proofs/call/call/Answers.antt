@@ -17,20 +17,20 @@ returns g c =
     let group = c.args.group.now in
     let working = c.args.working.now in
     let numbers = c.args.numbers.now in
-    let wakes = c.args.wake-ups.now in
+    let wakes = c.args.wake_ups.now in
     let f : Lengths =
-    lengths (c.front-opened-end.result - 0) (c.front-rules-end.result - 0) (c.front-log-end.result - 0) (c.front-standing-end.result - 0)
-    (c.front-group-end.result - 0) (c.front-working-end.result - 0) (c.front-numbers-end.result - 0) (c.front-wakes-end.result - 0) in
+    lengths (c.front-opened_end.result - 0) (c.front-rules_end.result - 0) (c.front-log_end.result - 0) (c.front-standing_end.result - 0)
+    (c.front-group_end.result - 0) (c.front-working_end.result - 0) (c.front-numbers_end.result - 0) (c.front-wakes_end.result - 0) in
     let fits : f ≡ lent_to c.args.call.lent (lengths (length opened) (length rules) (length log) (length standing) (length group) (length working) (length numbers) (length wakes)) =
     λ i. record {
-      opened = (sub-zero _ ∙ c.front-opened-end.ensures) i;
-      rules = (sub-zero _ ∙ c.front-rules-end.ensures) i;
-      log = (sub-zero _ ∙ c.front-log-end.ensures) i;
-      standing = (sub-zero _ ∙ c.front-standing-end.ensures) i;
-      group = (sub-zero _ ∙ c.front-group-end.ensures) i;
-      working = (sub-zero _ ∙ c.front-working-end.ensures) i;
-      numbers = (sub-zero _ ∙ c.front-numbers-end.ensures) i;
-      wakes = (sub-zero _ ∙ c.front-wakes-end.ensures) i;
+      opened = (sub-zero _ ∙ c.front-opened_end.ensures) i;
+      rules = (sub-zero _ ∙ c.front-rules_end.ensures) i;
+      log = (sub-zero _ ∙ c.front-log_end.ensures) i;
+      standing = (sub-zero _ ∙ c.front-standing_end.ensures) i;
+      group = (sub-zero _ ∙ c.front-group_end.ensures) i;
+      working = (sub-zero _ ∙ c.front-working_end.ensures) i;
+      numbers = (sub-zero _ ∙ c.front-numbers_end.ensures) i;
+      wakes = (sub-zero _ ∙ c.front-wakes_end.ensures) i;
     } in
     record {
       same = c.ask.ensures.same;

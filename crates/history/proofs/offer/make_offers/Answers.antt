@@ -11,10 +11,10 @@ loop-offer-init g c = (
 pub loop-offer-preserved : goal.loop-offer-preserved
 loop-offer-preserved g c =
     let inv = c.loop-offer.invariant.0 in
-    let e = c.make-offer.ensures in
+    let e = c.make_offer.ensures in
     let lt : c.loop-offer.offer-index < length c.loop-offer.offers = omega arith in (
       record { jobs = e.same.jobs ∙ inv.jobs; width = e.same.width ∙ inv.width; held = refl; counted = e.same.counted ∙ inv.counted },
-      filling_more _ _ _ _ _ _ _ _ _ c.make-offer.new.board.numbers.rules _ _ c.make-offer.new.rules c.make-offer.new.offer c.offer-item.result c.loop-offer.invariant.1 lt inv.jobs inv.width e.offered,
+      filling_more _ _ _ _ _ _ _ _ _ c.make_offer.new.board.numbers.rules _ _ c.make_offer.new.rules c.make_offer.new.offer c.offer-item.result c.loop-offer.invariant.1 lt inv.jobs inv.width e.offered,
     )
 
 pub returns : goal.returns

@@ -21,9 +21,9 @@ loop-event-preserved g c =
     let e = c.carry-board.ensures in
     let opened = c.args.opened.now in
     let rules = c.args.rules.now in
-    let t : lengths (length opened) (length rules) (length c.loop-event.log) (length c.loop-event.standing) (length c.loop-event.group) (length c.loop-event.working) (length c.loop-event.numbers) (length c.loop-event.wake-ups)
-    ≡ lengths (length opened) (length rules) (length c.args.log.now) (length c.args.standing.now) (length c.args.group.now) (length c.args.working.now) (length c.args.numbers.now) (length c.args.wake-ups.now) =
-    λ i. record { opened = length opened; rules = length rules; log = k.log i; standing = k.standing i; group = k.group i; working = k.working i; numbers = k.numbers i; wakes = k.wake-ups i } in
+    let t : lengths (length opened) (length rules) (length c.loop-event.log) (length c.loop-event.standing) (length c.loop-event.group) (length c.loop-event.working) (length c.loop-event.numbers) (length c.loop-event.wake_ups)
+    ≡ lengths (length opened) (length rules) (length c.args.log.now) (length c.args.standing.now) (length c.args.group.now) (length c.args.working.now) (length c.args.numbers.now) (length c.args.wake_ups.now) =
+    λ i. record { opened = length opened; rules = length rules; log = k.log i; standing = k.standing i; group = k.group i; working = k.working i; numbers = k.numbers i; wakes = k.wake_ups i } in
     let same = setting_same _ b.n _ b.w _ b.rules opened rules _ _ inv.jobs inv.width inv.held t in
     let lt : c.loop-event.event-index < length c.loop-event.events = omega arith in (
       record { jobs = e.same.jobs ∙ inv.jobs; width = e.same.width ∙ inv.width; held = e.same.held ∙ inv.held; counted = refl },
@@ -37,7 +37,7 @@ returns g c =
     let e = c.loop-event in
     let opened = c.args.opened.now in
     let rules = c.args.rules.now in
-    let tables = lengths (length opened) (length rules) (length c.args.log.now) (length c.args.standing.now) (length c.args.group.now) (length c.args.working.now) (length c.args.numbers.now) (length c.args.wake-ups.now) in
+    let tables = lengths (length opened) (length rules) (length c.args.log.now) (length c.args.standing.now) (length c.args.group.now) (length c.args.working.now) (length c.args.numbers.now) (length c.args.wake_ups.now) in
     let past : length e.events ≤ e.event-index = omega arith in
     record {
       same = subst (λ v. Same v v.rules e.board.numbers.cuts e.board.numbers) numbers e.invariant.0;

@@ -14,8 +14,8 @@ scene g s few = record {
   narrow = omega (arith, few.1);
 }
 
-pub take-free-requires : goal.take-free-requires
-take-free-requires g c =
+pub take_free-requires : goal.take_free-requires
+take_free-requires g c =
     let j = g.J.Bipartite in
     let s = c.args.jobs.now in
     let none = filled_with c.fill.new.self (length c.args.places.now) (c.fill.ensures.after (λ y e. e)) in

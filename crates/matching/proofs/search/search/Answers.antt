@@ -22,7 +22,7 @@ scan-requires g c =
     let s = c.args.jobs.now in
     let ps = c.args.matching.now.places.now in
     let hs = c.args.matching.now.holders.now in
-    let rest = entries c.pop-front.new.self c.loop-job.slots in
+    let rest = entries c.pop_front.new.self c.loop-job.slots in
     let state : Searching (j.jobs s) (j.width s) (j.holds s) ps hs c.loop-job.parents (c.in-Some.job ∷ rest) (j.jobs s) 0 =
     subst (λ (xs : List ℕ). Searching (j.jobs s) (j.width s) (j.holds s) ps hs c.loop-job.parents xs (j.jobs s) 0) c.in-Some.ensures.holds c.loop-job.invariant.0 in
     record {
@@ -40,6 +40,6 @@ returns g c =
     let s = c.args.jobs.now in
     let ps = c.args.matching.now.places.now in
     let hs = c.args.matching.now.holders.now in
-    let none : c.loop-job.queue.len ≡ 0 = omega (arith, false-ltb 0 c.loop-job.queue.len c.in-default.ensures.some) in
+    let none : c.loop-job.queue.len ≡ 0 = omega (arith, false-ltb 0 c.loop-job.queue.len c.in_default.ensures.some) in
     searching_ends (j.jobs s) (j.width s) (j.holds s) ps hs c.loop-job.parents c.requires.matched
     (subst (λ (n : ℕ). Searching (j.jobs s) (j.width s) (j.holds s) ps hs c.loop-job.parents (take n (ring c.loop-job.queue.head c.loop-job.slots)) (j.jobs s) 0) none c.loop-job.invariant.0)

@@ -30,10 +30,10 @@ module _ (xs : List ℕ) (p low i : ℕ) (left : next_of p (front_part low (drop
 pub loop-x-init : goal.loop-x-init
 loop-x-init c = refl
 
-pub returns-then-not-may-follow : goal.returns-then-not-may-follow
-returns-then-not-may-follow c =
+pub returns-then-not-may_follow : goal.returns-then-not-may_follow
+returns-then-not-may_follow c =
     let xs = c.args.stored.now in
-    found xs c.args.place None (stops xs c.args.place c.loop-x.low c.loop-x.x-index c.loop-x.invariant c.loop-x-test.true (sym c.if-not-may-follow.ensures))
+    found xs c.args.place None (stops xs c.args.place c.loop-x.low c.loop-x.x-index c.loop-x.invariant c.loop-x-test.true (sym c.if-not-may_follow.ensures))
 
 pub returns-then-x-place : goal.returns-then-x-place
 returns-then-x-place c =
@@ -42,7 +42,7 @@ returns-then-x-place c =
     let i = c.loop-x.x-index in
     let x = get_or xs i 0 in
     found xs p (Some x)
-    (here xs p c.loop-x.low i c.loop-x.invariant c.loop-x-test.true (sym c.if-not-may-follow.ensures)
+    (here xs p c.loop-x.low i c.loop-x.invariant c.loop-x-test.true (sym c.if-not-may_follow.ensures)
     ∙ cond-true (leb p x) (Some x) (next_of p (front_part (x + 1) (drop (i + 1) xs))) (le-leb p x c.if-x-place.true))
 
 pub loop-x-preserved : goal.loop-x-preserved
@@ -51,7 +51,7 @@ loop-x-preserved c =
     let p = c.args.place in
     let i = c.loop-x.x-index in
     let x = get_or xs i 0 in
-    sym (here xs p c.loop-x.low i c.loop-x.invariant c.loop-x-test.true (sym c.if-not-may-follow.ensures)
+    sym (here xs p c.loop-x.low i c.loop-x.invariant c.loop-x-test.true (sym c.if-not-may_follow.ensures)
     ∙ cond-false (leb p x) (Some x) (next_of p (front_part (x + 1) (drop (i + 1) xs))) (lt-leb p x c.if-x-place.false))
 
 pub returns : goal.returns

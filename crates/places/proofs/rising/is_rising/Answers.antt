@@ -6,18 +6,18 @@ use Rattle.places.proofs.rising.is_rising.Goals as goal
 pub loop-x-init : goal.loop-x-init
 loop-x-init c = refl
 
-pub returns-then-not-may-follow : goal.returns-then-not-may-follow
-returns-then-not-may-follow c =
+pub returns-then-not-may_follow : goal.returns-then-not-may_follow
+returns-then-not-may_follow c =
     let xs = c.args.named.now in
     let i = c.loop-x.x-index in
-    ap (λ b. b && rises (get_or xs i 0 + 1) (drop (i + 1) xs)) c.if-not-may-follow.ensures
+    ap (λ b. b && rises (get_or xs i 0 + 1) (drop (i + 1) xs)) c.if-not-may_follow.ensures
     ∙ (sym (at_drop_more (rises c.loop-x.low) xs i 0 c.loop-x-test.true) ∙ c.loop-x.invariant)
 
 pub loop-x-preserved : goal.loop-x-preserved
 loop-x-preserved c =
     let xs = c.args.named.now in
     let i = c.loop-x.x-index in
-    ap (λ b. b && rises (get_or xs i 0 + 1) (drop (i + 1) xs)) c.if-not-may-follow.ensures
+    ap (λ b. b && rises (get_or xs i 0 + 1) (drop (i + 1) xs)) c.if-not-may_follow.ensures
     ∙ (sym (at_drop_more (rises c.loop-x.low) xs i 0 c.loop-x-test.true) ∙ c.loop-x.invariant)
 
 pub returns : goal.returns

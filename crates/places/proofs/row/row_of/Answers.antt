@@ -7,7 +7,7 @@ use Rattle.places.proofs.Rows.{no_row, one_more, or_none}
 use Rattle.places.proofs.row.row_of.Goals as goal
 
 pub loop-place-init : goal.loop-place-init
-loop-place-init c = (λ q. ap (λ b. b || member c.args.named.now q) (c.bit-of-row.ensures q ∙ no_row q), c.requires)
+loop-place-init c = (λ q. ap (λ b. b || member c.args.named.now q) (c.bit_of-row.ensures q ∙ no_row q), c.requires)
 
 pub loop-place-preserved : goal.loop-place-preserved
 loop-place-preserved c =
@@ -17,7 +17,7 @@ loop-place-preserved c =
     let rest = drop (i + 1) xs in
     let row = c.loop-place.row in
     let fit = and_parts (ltb x 64) (all_below 64 rest) (sym (at_drop_more (all_below 64) xs i 0 c.loop-place-test.true) ∙ c.loop-place.invariant.1) in (
-      λ q. ap (λ b. b || member rest q) (c.joined-row.ensures q ∙ ap (λ b. row_has row q || b) (c.bit-of.ensures q))
+      λ q. ap (λ b. b || member rest q) (c.joined-row.ensures q ∙ ap (λ b. row_has row q || b) (c.bit_of.ensures q))
           ∙ one_more (row_has row q) (member rest q) x q (ltb-true x 64 fit.0)
           ∙ ap (λ b. row_has row q || b) (sym (at_drop_more (λ ys. member ys q) xs i 0 c.loop-place-test.true))
           ∙ c.loop-place.invariant.0 q,

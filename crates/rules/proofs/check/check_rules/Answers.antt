@@ -6,11 +6,11 @@ use Rattle.rules.proofs.check.check_rules.Goals as goal
 pub loop-i-init : goal.loop-i-init
 loop-i-init g c = refl
 
-pub returns-then-not-is-lawful : goal.returns-then-not-is-lawful
-returns-then-not-is-lawful g c = record { lawful = tt; refusal = fault_here (unlawful g.R.Rule.lawful c.args.n) 12 c.args.rules.now c.loop-i.i c.loop-i.invariant c.index-rules-i.result c.loop-i-test.true c.index-rules-i.is (ap not (sym c.if-not-is-lawful.ensures.value)) }
+pub returns-then-not-is_lawful : goal.returns-then-not-is_lawful
+returns-then-not-is_lawful g c = record { lawful = tt; refusal = fault_here (unlawful g.R.Rule.lawful c.args.n) 12 c.args.rules.now c.loop-i.i c.loop-i.invariant c.index-rules-i.result c.loop-i-test.true c.index-rules-i.is (ap not (sym c.if-not-is_lawful.ensures.value)) }
 
 pub loop-i-preserved : goal.loop-i-preserved
-loop-i-preserved g c = fault_next (unlawful g.R.Rule.lawful c.args.n) 12 c.args.rules.now c.loop-i.i c.loop-i.invariant c.index-rules-i.result c.loop-i-test.true c.index-rules-i.is (ap not (sym c.if-not-is-lawful.ensures.value))
+loop-i-preserved g c = fault_next (unlawful g.R.Rule.lawful c.args.n) 12 c.args.rules.now c.loop-i.i c.loop-i.invariant c.index-rules-i.result c.loop-i-test.true c.index-rules-i.is (ap not (sym c.if-not-is_lawful.ensures.value))
 
 pub returns : goal.returns
 returns g c =

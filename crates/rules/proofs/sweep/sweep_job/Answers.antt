@@ -5,8 +5,8 @@ use Rattle.rules.specs.Narrowing.{Scope}
 use Rattle.rules.proofs.Narrowing.{trimmed_trans, swept_more, swept_all}
 use Rattle.rules.proofs.sweep.sweep_job.Goals as goal
 
-pub sweep-place-requires : goal.sweep-place-requires
-sweep-place-requires g c =
+pub sweep_place-requires : goal.sweep_place-requires
+sweep_place-requires g c =
     let jobs = g.S.Search.jobs c.args.search.now in
     let scope = subst (λ n. Scope n jobs) (sym c.loop-p.auto.lists) c.requires.scope in
     let read = λ (q : ℕ). family_job g.L.PlaceSet.has c.loop-p.lists c.job-job.result (get_or jobs c.args.k 0) q c.index-lists-job.result c.job-job.ensures (scope.below c.args.k c.requires.position) in
@@ -17,7 +17,7 @@ loop-p-preserved g c =
     let jobs = g.S.Search.jobs c.args.search.now in
     let scope = subst (λ n. Scope n jobs) (sym c.loop-p.auto.lists) c.requires.scope in
     let read = λ (q : ℕ). family_job g.L.PlaceSet.has c.loop-p.lists c.job-job.result (get_or jobs c.args.k 0) q c.index-lists-job.result c.job-job.ensures (scope.below c.args.k c.requires.position) in
-    let step = c.sweep-place.ensures in
+    let step = c.sweep_place.ensures in
     let first = c.in-Some.ensures.first in (
       omega (arith, g.met.L.PlaceSet.within (get_or c.loop-p.lists c.job-job.result c.index-lists-job.result) c.in-Some.p first.1),
       trimmed_trans c.loop-p.invariant.1 step.trimmed,
@@ -33,5 +33,5 @@ returns g c =
     record {
       trimmed = c.loop-p.invariant.1;
       swept = swept_all (family has c.args.lists.now) (family has c.loop-p.lists) c.args.k c.loop-p.from c.loop-p.invariant.2
-          (λ q l. read q ∙ c.in-default.ensures.first q l);
+          (λ q l. read q ∙ c.in_default.ensures.first q l);
     }

@@ -14,7 +14,7 @@ loop-i-preserved g c =
     let rules = c.args.rules.now in
     let some = rule_from_all (λ x. 0 < length (g.R.Rule.scope x)) rules c.loop-i.i r (c.loop-i-test.true, c.index-rules-i.is) c.requires.some in
     let woken = c.wake.ensures in
-    all_woken r c.first-job.result c.loop-i.invariant (c.loop-i-test.true, c.index-rules-i.is) some c.first-job.ensures.value woken.agreed woken.rules woken.woken woken.appended
+    all_woken r c.first_job.result c.loop-i.invariant (c.loop-i-test.true, c.index-rules-i.is) some c.first_job.ensures.value woken.agreed woken.rules woken.woken woken.appended
 
 pub returns : goal.returns
 returns g c =

@@ -2,8 +2,8 @@ use Rattle.std.proofs.Common.{sym, arith}
 use Rattle.board.proofs.Groupings.{named_scope}
 use Rattle.board.proofs.numbers.Numbers.group.Goals as goal
 
-pub write-group-requires : goal.write-group-requires
-write-group-requires g c =
+pub write_group-requires : goal.write_group-requires
+write_group-requires g c =
     let b = c.args.self.now in
     let r = g.R.Rule in
     let ready = c.in-ok-jobs.ensures.ready.0 in
@@ -16,5 +16,5 @@ write-group-requires g c =
 pub returns : goal.returns
 returns g c = (
   sym c.in-ok-jobs.ensures.refusal,
-  (c.in-ok-jobs.jobs, c.in-ok-jobs.ensures.ready.2, c.write-group.ensures),
+  (c.in-ok-jobs.jobs, c.in-ok-jobs.ensures.ready.2, c.write_group.ensures),
 )

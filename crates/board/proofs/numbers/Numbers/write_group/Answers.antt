@@ -5,10 +5,10 @@ use Rattle.board.proofs.Groupings.{told_at}
 use Rattle.board.proofs.Settlings.{front_length}
 use Rattle.board.proofs.numbers.Numbers.write_group.Goals as goal
 
-pub deficient-group-requires : goal.deficient-group-requires
-deficient-group-requires g c =
+pub deficient_group-requires : goal.deficient_group-requires
+deficient_group-requires g c =
     let b = c.args.self.now in
-    let size = c.write-current.auto.lists ∙ front_length b.n c.args.working.now c.requires.tables.2 in
+    let size = c.write_current.auto.lists ∙ front_length b.n c.args.working.now c.requires.tables.2 in
     record {
       few = omega (arith, size, b.jobs);
       scope = subst (λ (n : ℕ). Scope n (jobs_of c.args.jobs.now)) (sym size) c.requires.scope;
@@ -19,4 +19,4 @@ deficient-group-requires g c =
 pub returns : goal.returns
 returns g c =
     let b = c.args.self.now in
-    told_at g.L.PlaceSet.has g.L.PlaceSet.limit b.n b.cuts c.args.opened.now c.args.log.now _ _ _ _ _ _ c.write-current.ensures c.deficient-group.ensures
+    told_at g.L.PlaceSet.has g.L.PlaceSet.limit b.n b.cuts c.args.opened.now c.args.log.now _ _ _ _ _ _ c.write_current.ensures c.deficient_group.ensures

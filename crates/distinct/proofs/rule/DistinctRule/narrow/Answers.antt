@@ -6,8 +6,8 @@ use Rattle.rules.specs.Progressions.{spread, jobs_of, no_place_twice}
 use Rattle.distinct.specs.Spreads.{lawful_scope, spread_length, scope_few}
 use Rattle.distinct.proofs.rule.DistinctRule.narrow.Goals as goal
 
-pub narrow-jobs-requires : goal.narrow-jobs-requires
-narrow-jobs-requires g c =
+pub narrow_jobs-requires : goal.narrow_jobs-requires
+narrow_jobs-requires g c =
     let r = c.args.self.now in
     let n = length c.args.lists.now in
     let e = c.jobs-jobs.ensures in
@@ -25,5 +25,5 @@ pub returns : goal.returns
 returns g c =
     let has = g.L.PlaceSet.has in
     record {
-      narrowed = subst (λ (d : Progression). Narrowed (jobs_of d) no_place_twice (family has c.args.lists.now) (family has c.narrow-jobs.new.lists)) c.jobs-jobs.ensures c.narrow-jobs.ensures;
+      narrowed = subst (λ (d : Progression). Narrowed (jobs_of d) no_place_twice (family has c.args.lists.now) (family has c.narrow_jobs.new.lists)) c.jobs-jobs.ensures c.narrow_jobs.ensures;
     }

@@ -6,7 +6,7 @@ pub returns : goal.returns
 returns g c =
     let xs = c.args.self.now.lists.now in
     record {
-      first = family_first g.L.PlaceSet.has xs c.index.result _ c.args.place c.index-self-index.result c.next-from.result c.index.ensures.within c.index.ensures.value c.next-from.ensures.first;
-      within = first_within (g.L.PlaceSet.has (get_or xs c.index.result c.index-self-index.result)) g.L.PlaceSet.limit c.args.place c.next-from.result
-          (g.met.L.PlaceSet.within (get_or xs c.index.result c.index-self-index.result)) c.next-from.ensures.first;
+      first = family_first g.L.PlaceSet.has xs c.index.result _ c.args.place c.index-self-index.result c.next_from.result c.index.ensures.within c.index.ensures.value c.next_from.ensures.first;
+      within = first_within (g.L.PlaceSet.has (get_or xs c.index.result c.index-self-index.result)) g.L.PlaceSet.limit c.args.place c.next_from.result
+          (g.met.L.PlaceSet.within (get_or xs c.index.result c.index-self-index.result)) c.next_from.ensures.first;
     }

@@ -4,7 +4,7 @@ use Rattle.std.proofs.lemmas.Bool.{cond-true, cond-false}
 use Rattle.places.specs.Needles.{front_part, passes, rises}
 use Rattle.places.specs.Fronts.{front_rises}
 use Rattle.places.proofs.needles.NeedleList.front.Goals as goal
-use Rattle.places.proofs.needles.NeedleList.front.Goals.{else-loop-x-test, then-loop-x-test+then-not-may-follow}
+use Rattle.places.proofs.needles.NeedleList.front.Goals.{else-loop-x-test, then-loop-x-test+then-not-may_follow}
 
 module _ (xs : List ℕ) (low i : ℕ) (front : take i xs ++ front_part low (drop i xs) ≡ front_part 0 xs) where
   -- one number more of the front part
@@ -28,7 +28,7 @@ pub loop-x-preserved : goal.loop-x-preserved
 loop-x-preserved c =
     let xs = c.args.self.now.places in
     let long : length xs ≡ 8 = omega arith in
-    (omega arith, more xs c.loop-x.low c.loop-x.x-index c.loop-x.invariant.1 (omega arith) (sym c.if-not-may-follow.ensures))
+    (omega arith, more xs c.loop-x.low c.loop-x.x-index c.loop-x.invariant.1 (omega arith) (sym c.if-not-may_follow.ensures))
 
 pub returns : goal.returns
 returns c =
@@ -40,7 +40,7 @@ returns c =
     let all : take i xs ≡ front_part 0 xs =
     elim c.loop-x-test.branch [
       | else-loop-x-test w ↦ ends xs low i c.loop-x.invariant.1 (at_drop_all (front_part low) xs i (omega arith))
-      | then-loop-x-test+then-not-may-follow w ↦ stops xs low i c.loop-x.invariant.1 (omega arith) (sym w.if-not-may-follow.ensures)
+      | then-loop-x-test+then-not-may_follow w ↦ stops xs low i c.loop-x.invariant.1 (omega arith) (sym w.if-not-may_follow.ensures)
     ] in
     let value = ap (λ k. take k xs) n ∙ all in
     record {

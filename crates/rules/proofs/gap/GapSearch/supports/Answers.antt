@@ -3,32 +3,32 @@ use Rattle.places.proofs.Families.{family_all}
 use Rattle.rules.proofs.Triples.{gap_decides_a, gap_decides_b, gap_decides_c, below_three}
 use Rattle.rules.proofs.gap.GapSearch.supports.Goals as goal
 
-pub jobs-meet-requires : goal.jobs-meet-requires
-jobs-meet-requires g c =
+pub jobs_meet-requires : goal.jobs_meet-requires
+jobs_meet-requires g c =
     let m = g.L.PlaceSet in
     let below = below_three c.requires.scope in
     record { first = below.1; second = below.2; place = family_all m.has (λ q. q < m.limit) g.met.L.PlaceSet.within c.args.lists.now _ _ c.requires.held }
 
 pub returns-in-0 : goal.returns-in-0
-returns-in-0 g c = gap_decides_a _ _ _ _ _ _ c.args.k c.requires.held c.in-0.is c.jobs-meet.ensures
+returns-in-0 g c = gap_decides_a _ _ _ _ _ _ c.args.k c.requires.held c.in-0.is c.jobs_meet.ensures
 
-pub jobs-meet-requires-in-1 : goal.jobs-meet-requires-in-1
-jobs-meet-requires-in-1 g c =
+pub jobs_meet-requires-in-1 : goal.jobs_meet-requires-in-1
+jobs_meet-requires-in-1 g c =
     let m = g.L.PlaceSet in
     let below = below_three c.requires.scope in
     record { first = below.0; second = below.2; place = family_all m.has (λ q. q < m.limit) g.met.L.PlaceSet.within c.args.lists.now _ _ c.requires.held }
 
 pub returns-in-1 : goal.returns-in-1
-returns-in-1 g c = gap_decides_b _ _ _ _ _ _ c.args.k c.requires.held c.in-1.is c.jobs-meet-in-1.ensures
+returns-in-1 g c = gap_decides_b _ _ _ _ _ _ c.args.k c.requires.held c.in-1.is c.jobs_meet-in-1.ensures
 
-pub jobs-differ-requires : goal.jobs-differ-requires
-jobs-differ-requires g c =
+pub jobs_differ-requires : goal.jobs_differ-requires
+jobs_differ-requires g c =
     let m = g.L.PlaceSet in
     let below = below_three c.requires.scope in
     record { first = below.0; second = below.1; place = family_all m.has (λ q. q < m.limit) g.met.L.PlaceSet.within c.args.lists.now _ _ c.requires.held }
 
-pub returns-in-default : goal.returns-in-default
-returns-in-default g c =
+pub returns-in_default : goal.returns-in_default
+returns-in_default g c =
     let position : c.args.k < 3 = c.requires.position in
     let at : c.args.k ≡ 2 = omega arith in
-    gap_decides_c _ _ _ _ _ _ c.args.k c.requires.held at c.jobs-differ.ensures
+    gap_decides_c _ _ _ _ _ _ c.args.k c.requires.held at c.jobs_differ.ensures

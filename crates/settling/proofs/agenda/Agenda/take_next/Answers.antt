@@ -8,7 +8,7 @@ returns-in-Some c =
     let slots = c.args.slots.now in
     let popped = c.in-Some.ensures in
     record {
-      agreed = agreed_take a slots c.pop-front.new.self c.in-Some.wake-up c.requires popped.ready popped.holds;
+      agreed = agreed_take a slots c.pop_front.new.self c.in-Some.wake_up c.requires popped.ready popped.holds;
       rules = refl;
-      taken = taken_one a slots c.pop-front.new.self c.in-Some.wake-up c.requires popped.ready popped.holds;
+      taken = taken_one a slots c.pop_front.new.self c.in-Some.wake_up c.requires popped.ready popped.holds;
     }
