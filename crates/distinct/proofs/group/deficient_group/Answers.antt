@@ -17,11 +17,11 @@ split_at_mut-parents-requires g c = omega (arith, count_few c.args.jobs.now (len
 pub split_at_mut-slots-requires : goal.split_at_mut-slots-requires
 split_at_mut-slots-requires g c = omega (arith, count_few c.args.jobs.now (length c.args.lists.now) c.requires.scope, c.requires.memory)
 
-pub invariant-of-match_jobs : goal.invariant-of-match_jobs
-invariant-of-match_jobs g c =
+pub invariant_of-match_jobs : goal.invariant_of-match_jobs
+invariant_of-match_jobs g c =
     let d = c.args.jobs.now in
     let n = length c.args.lists.now in
-    (omega (arith, count_few d n c.requires.scope, c.requires.few), (last_below d n c.requires.scope, tt))
+    record { few = omega (arith, count_few d n c.requires.scope, c.requires.few); fits = last_below d n c.requires.scope }
 
 pub list_marked-requires : goal.list_marked-requires
 list_marked-requires g c =
@@ -30,7 +30,7 @@ list_marked-requires g c =
     let few : d.count ≤ n = count_few d n c.requires.scope in
     record {
       few = omega (arith, c.requires.few);
-      marks = c.match_jobs.auto.parents ∙ c.split_at_mut-parents.ensures.front-len;
+      marks = c.match_jobs.auto.parents ∙ c.split_at_mut-parents.ensures.front_len;
       small = λ i l. omega (arith, job_below d n c.requires.scope i l, c.requires.few);
       table = omega (arith, c.requires.table);
     }
@@ -41,5 +41,5 @@ returns g c =
     let n = length c.args.lists.now in
     told n d.count g.L.PlaceSet.limit (family g.L.PlaceSet.has c.args.lists.now) (jobs_of d) c.match_jobs.new.places c.match_jobs.new.holders c.match_jobs.new.parents
     c.requires.scope (count_is d n c.requires.scope) c.match_jobs.ensures c.args.table.now c.list_marked.new.table c.list_marked.result c.count_none.result
-    (c.match_jobs.auto.places ∙ c.split_at_mut-places.ensures.front-len) c.list_marked.ensures.listed c.list_marked.ensures.rest
+    (c.match_jobs.auto.places ∙ c.split_at_mut-places.ensures.front_len) c.list_marked.ensures.listed c.list_marked.ensures.rest
     (omega (arith, c.list_marked.ensures.len, c.list_marked.auto.table)) c.count_none.ensures

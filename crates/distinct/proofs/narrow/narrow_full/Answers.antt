@@ -6,8 +6,8 @@ use Rattle.distinct.proofs.Narrowings.{narrowed_full}
 use Rattle.distinct.specs.Spreads.{count_is, job_below, last_below}
 use Rattle.distinct.proofs.narrow.narrow_full.Goals as goal
 
-pub invariant-of-components : goal.invariant-of-components
-invariant-of-components g c = (c.requires.few, (last_below c.args.jobs.now (length c.args.lists.now) c.requires.scope, tt))
+pub invariant_of-components : goal.invariant_of-components
+invariant_of-components g c = record { few = c.requires.few; fits = last_below c.args.jobs.now (length c.args.lists.now) c.requires.scope }
 
 pub sift_all-requires : goal.sift_all-requires
 sift_all-requires g c =
@@ -20,7 +20,7 @@ sift_all-requires g c =
       tables = record {
         places_fit = omega (arith, lp);
         holders_fit = f.matched.holders_fit;
-        labels_fit = omega (arith, c.components.auto.labels, c.split_at_mut-labels.ensures.front-len);
+        labels_fit = omega (arith, c.components.auto.labels, c.split_at_mut-labels.ensures.front_len);
         marks_fit = omega (arith, c.components.auto.index, lm);
         jobs = λ p l ne. (f.matched.back p l ne).0;
       };

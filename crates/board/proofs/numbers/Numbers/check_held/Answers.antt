@@ -3,4 +3,4 @@ use native.Mathlib.Nat.{sub-zero}
 use Rattle.board.proofs.numbers.Numbers.check_held.Goals as goal
 
 pub returns : goal.returns
-returns g c = record { refusal = search rules; lawful = simp sub-zero at c.in-ok-check_rules.ensures.lawful }
+returns g c = record { refusal = search rules; lawful = simp sub-zero at c.in_ok-check_rules.ensures.lawful }

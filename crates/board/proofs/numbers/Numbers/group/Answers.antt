@@ -6,15 +6,15 @@ pub write_group-requires : goal.write_group-requires
 write_group-requires g c =
     let b = c.args.self.now in
     let r = g.R.Rule in
-    let ready = c.in-ok-jobs.ensures.ready.0 in
+    let ready = c.in_ok-jobs.ensures.ready.0 in
     record {
-      scope = named_scope r.names r.scope r.admits r.lawful b.n g.met.R.Rule.scoped g.met.R.Rule.named _ c.args.rule c.in-ok-jobs.jobs ready.all_lawful c.in-ok-jobs.ensures.ready.2;
-      tables = (ready.opened, ready.counted, ready.working, c.in-ok-jobs.ensures.ready.1);
+      scope = named_scope r.names r.scope r.admits r.lawful b.n g.met.R.Rule.scoped g.met.R.Rule.named _ c.args.rule c.in_ok-jobs.jobs ready.all_lawful c.in_ok-jobs.ensures.ready.2;
+      tables = (ready.opened, ready.counted, ready.working, c.in_ok-jobs.ensures.ready.1);
       memory = omega (arith, ready.numbers, c.requires);
     }
 
 pub returns : goal.returns
 returns g c = (
-  sym c.in-ok-jobs.ensures.refusal,
-  (c.in-ok-jobs.jobs, c.in-ok-jobs.ensures.ready.2, c.write_group.ensures),
+  sym c.in_ok-jobs.ensures.refusal,
+  (c.in_ok-jobs.jobs, c.in_ok-jobs.ensures.ready.2, c.write_group.ensures),
 )

@@ -21,7 +21,7 @@ returns-in-Err g c =
     let same = counted_cuts log c.counted.result.now b.cuts fix c.counted.ensures in
     record {
       answer = stops has limit lawful (held_by b) opened rules log c.counted.result.now l c.args.job c.args.place _
-          c.in-ok-check_trial.ensures.refusal.0 same c.in-Err.ensures.refusal;
+          c.in_ok-check_trial.ensures.refusal.0 same c.in-Err.ensures.refusal;
       log = c.drop-guard.ensures ∙ put_back _ _ _ _;
     }
 
@@ -34,7 +34,7 @@ settle_current-requires g c =
     let limit = g.L.PlaceSet.limit in
     let lawful = g.R.Rule.lawful in
     let l = lengths (length opened) (length rules) (length log) 0 0 (length c.args.working.now) (length c.args.numbers.now) (length c.args.wake_ups.now) in
-    let fits = not_short limit (held_by b) l c.in-ok-check_trial.ensures.refusal.0 in
+    let fits = not_short limit (held_by b) l c.in_ok-check_trial.ensures.refusal.0 in
     let lists = front_length b.n c.args.working.now fits.working in
     let held = front_length b.rules rules fits.held in
     record {
@@ -60,15 +60,15 @@ returns-in-Some g c =
     let scope = g.R.Rule.scope in
     let admits = g.R.Rule.admits in
     let after = c.settle_current.new.lists in
-    let fits = not_short limit (held_by b) l c.in-ok-check_trial.ensures.refusal.0 in
+    let fits = not_short limit (held_by b) l c.in_ok-check_trial.ensures.refusal.0 in
     let lists = front_length b.n c.args.working.now fits.working in
     let same = counted_cuts log c.counted.result.now b.cuts fix c.counted.ensures in
-    let cuts = with_fix log c.cuts.result.now b.cuts fix c.in-ok-check_trial.ensures.room.0 c.cuts.ensures in
+    let cuts = with_fix log c.cuts.result.now b.cuts fix c.in_ok-check_trial.ensures.room.0 c.cuts.ensures in
     let reach = with_trial has scope admits b.n b.rules b.cuts c.args.job c.args.place opened rules log c.cuts.result.now _ after _ lists cuts c.in-Some.ensures in
     record {
       answer = (
         passes has limit lawful (held_by b) opened rules log c.counted.result.now l c.args.job c.args.place
-            c.in-ok-check_trial.ensures.refusal.0 same c.in_default.ensures.refusal c.in-ok-check_trial.ensures.refusal.1,
+            c.in_ok-check_trial.ensures.refusal.0 same c.in_default.ensures.refusal c.in_ok-check_trial.ensures.refusal.1,
         decides_no has scope admits _ _ _ after c.in-Some.field-0 reach,
       );
       log = c.drop-guard-in-Some.ensures ∙ put_back _ _ _ _;
@@ -88,15 +88,15 @@ returns g c =
     let scope = g.R.Rule.scope in
     let admits = g.R.Rule.admits in
     let after = c.settle_current.new.lists in
-    let fits = not_short limit (held_by b) l c.in-ok-check_trial.ensures.refusal.0 in
+    let fits = not_short limit (held_by b) l c.in_ok-check_trial.ensures.refusal.0 in
     let lists = front_length b.n c.args.working.now fits.working in
     let same = counted_cuts log c.counted.result.now b.cuts fix c.counted.ensures in
-    let cuts = with_fix log c.cuts.result.now b.cuts fix c.in-ok-check_trial.ensures.room.0 c.cuts.ensures in
+    let cuts = with_fix log c.cuts.result.now b.cuts fix c.in_ok-check_trial.ensures.room.0 c.cuts.ensures in
     let reach = with_trial has scope admits b.n b.rules b.cuts c.args.job c.args.place opened rules log c.cuts.result.now _ after _ lists cuts c.in-None.ensures in
     record {
       answer = (
         passes has limit lawful (held_by b) opened rules log c.counted.result.now l c.args.job c.args.place
-            c.in-ok-check_trial.ensures.refusal.0 same c.in_default.ensures.refusal c.in-ok-check_trial.ensures.refusal.1,
+            c.in_ok-check_trial.ensures.refusal.0 same c.in_default.ensures.refusal c.in_ok-check_trial.ensures.refusal.1,
         decides_yes has scope admits _ _ _ after reach,
       );
       log = c.drop-guard-2.ensures ∙ put_back _ _ _ _;
