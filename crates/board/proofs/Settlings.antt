@@ -1,5 +1,5 @@
 -- Settlings of the current lists.
-use Rattle.std.proofs.Common.{◌≡◌, ℕ, ◌-◌, ◌≤◌, Bool, true, List, ◌++◌, length, take, drop, Some, None, Option, sym, refl, ap, ◌∙◌, subst, inl, inr, arith}
+use Rattle.std.proofs.Common.{◌≡◌, ℕ, ◌-◌, ◌≤◌, Bool, true, List, ◌++◌, length, take, drop, Some, None, Option, sym, refl, ap, ◌∙◌, subst, inr}
 use native.Mathlib.Nat.{sub-zero}
 use Rattle.std.proofs.lemmas.List.{drop_at, take_at, length-take-le}
 use Rattle.std.specs.List.{AllByRecursion as All}
@@ -8,8 +8,7 @@ use Rattle.places.specs.Families.{Family, family}
 use Rattle.cuts.specs.Current.{current}
 use Rattle.cuts.specs.declared.cut.Cut.{Cut}
 use Rattle.settling.specs.Consistency.{Settled, Lowest, KeepsPlacings}
-use Rattle.board.specs.Book.{Held}
-use Rattle.board.specs.Moments.{Reached, SettleSays, Stands, current_lists}
+use Rattle.board.specs.Moments.{Reached, SettleSays, Stands}
 
 -- a front of so many elements
 pub front_length : {X : Type 0} (n : ℕ) (xs : List X) → n ≤ length xs → length (take (n - 0) xs) ≡ n

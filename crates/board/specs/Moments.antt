@@ -1,9 +1,9 @@
 -- What a board means at a moment: its current lists, and what settlings, trials and group questions say of them.
 -- A list kind is given by `has`, a rule kind by `scope`, `admits` and `names`.
-use Rattle.std.specs.Prelude.{◌≡◌, ℕ, Bool, true, false, ◌⊎◌, List, take, drop, Some, None, Ok, Err, Decides, Option, Result}
+use Rattle.std.specs.Prelude.{◌≡◌, ℕ, Bool, ◌⊎◌, List, take, drop, Some, None, Ok, Err, Decides, Option, Result}
 use Rattle.refusals.specs.declared.Refusal.{Refusal}
 use Rattle.refusals.specs.Codes.{Code, code, says}
-use Rattle.places.specs.Families.{Family, family, fixed}
+use Rattle.places.specs.Families.{Family, family}
 use Rattle.cuts.specs.Current.{current}
 use Rattle.cuts.specs.declared.cut.Cut.{Cut}
 use Rattle.rules.specs.Progressions.{jobs_of}

@@ -1,7 +1,6 @@
 -- What calls answer, and what they leave of a board and its tables.
-use Rattle.std.specs.Prelude.{◌≡◌, ℕ, ◌+◌, List, length, set, Some, None, Ok, Err, Option, Result}
+use Rattle.std.specs.Prelude.{◌≡◌, ℕ, Some, None, Ok, Err, Option, Result}
 use Rattle.refusals.specs.Codes.{Code, says}
-use Rattle.cuts.specs.declared.cut.Cut.{Cut}
 use Rattle.board.specs.declared.numbers.Numbers.{Numbers}
 use Rattle.board.specs.declared.board.Rejected.{Rejected}
 use Rattle.board.specs.declared.lengths.Lengths.{Lengths}

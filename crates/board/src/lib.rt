@@ -1,4 +1,6 @@
 // A board: its stages, and every call that a client makes on it. All tables are lent to each call; a board holds numbers only.
+#![tactic(auto)]
+
 mod board;
 mod check;
 mod closed;

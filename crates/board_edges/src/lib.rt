@@ -1,3 +1,5 @@
+#![tactic(auto)]
+
 // Examples at the edges of every call of a board.
 #[cfg(test)]
 mod asking_tests;

@@ -1,4 +1,6 @@
 // Strongly connected components of a full matching: which jobs can pass places on among themselves, and which reach a free place.
+#![tactic(auto)]
+
 mod close;
 mod stack;
 mod walk;

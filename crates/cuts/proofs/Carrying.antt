@@ -3,7 +3,7 @@ use Rattle.std.proofs.Common.{◌≡◌, ℕ, ◌<◌, ◌≤◌, Bool, true, fa
 use mathlib.Core.Path.{fun_ext}
 use Rattle.std.proofs.lemmas.Bool.{cases_eq, eq-eqb, ne_eqb}
 use Rattle.places.specs.Sets.{without, only}
-use Rattle.places.specs.Families.{Family, family, struck, fixed}
+use Rattle.places.specs.Families.{family, struck, fixed}
 use Rattle.cuts.specs.Current.{acted}
 use Rattle.cuts.specs.declared.cut.Action.{Action}
 use Rattle.cuts.specs.declared.cut.Action.TheVariants.{Strike, Fix}

@@ -1,7 +1,6 @@
 -- Whether a set has a place at or past a width.
-use Rattle.std.proofs.Common.{◌≡◌, ℕ, zero, suc, ◌<◌, ◌≤◌, Bool, true, false, ◌&&◌, leb, is_some, Some, None, Option, sym, ◌∙◌, ⊎_elim, arith}
+use Rattle.std.proofs.Common.{◌≡◌, ℕ, ◌<◌, Bool, true, ◌&&◌, leb, is_some, Some, None, Option, sym, ⊎_elim}
 use Rattle.std.proofs.lemmas.Bool.{and_from, and_parts, le-leb, leb-true, cases_Bool, both_ways}
-use Rattle.theory.specs.Counts.{some}
 use Rattle.theory.proofs.Sums.{some_has, some_at}
 use Rattle.places.specs.Sets.{First}
 use Rattle.cuts.specs.Checks.{past_width}

@@ -1,4 +1,6 @@
 // Cuts, the current lists that they leave of the opened ones, and the checks of what a board's tables hold.
+#![tactic(auto)]
+
 mod check;
 mod current;
 mod cut;

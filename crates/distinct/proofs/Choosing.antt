@@ -1,5 +1,5 @@
 -- The jobs of a scope that pass a test of positions.
-use Rattle.std.proofs.Common.{◌≡◌, ℕ, zero, suc, ◌+◌, ◌-◌, ◌<◌, ◌≤◌, Bool, true, false, cond, List, [], ◌∷◌, ◌++◌, length, get_or, take, drop, set, sym, refl, ap, ◌∙◌, subst, subst₂, inl, inr, add-one, arith, take-suc}
+use Rattle.std.proofs.Common.{◌≡◌, ℕ, zero, suc, ◌+◌, ◌<◌, ◌≤◌, Bool, true, false, cond, List, [], ◌∷◌, ◌++◌, length, get_or, take, drop, set, sym, refl, ap, ◌∙◌, subst, subst₂, inl, inr, add-one, arith, take-suc}
 use native.Mathlib.Decide.{ℕ_discrete}
 use Rattle.theory.specs.Lists.{member}
 use Rattle.theory.proofs.Sums.{cases, clash}

@@ -1,5 +1,5 @@
 -- One more list is sifted.
-use Rattle.std.proofs.Common.{◌≡◌, ℕ, ◌+◌, ◌-◌, ◌<◌, ◌≤◌, Bool, true, false, ◌&&◌, eqb, ◌≢◌, List, length, get_or, set, sym, refl, ap, ◌∙◌, subst, arith, ne_eqb}
+use Rattle.std.proofs.Common.{◌≡◌, ℕ, ◌+◌, ◌<◌, ◌≤◌, Bool, true, false, ◌&&◌, eqb, ◌≢◌, List, length, get_or, set, sym, refl, ap, ◌∙◌, subst, arith, ne_eqb}
 use native.Mathlib.Decide.{ℕ_discrete}
 use Rattle.places.specs.Families.{Family, family}
 use Rattle.places.proofs.Families.{family_at, family_set_same, family_set_other}

@@ -3,7 +3,6 @@ use Rattle.std.specs.Prelude.{◌≡◌, ℕ, zero, suc, ◌+◌, ◌-◌, ◌*�
 use Rattle.std.proofs.Common.{sym, ap, ◌∙◌, inl, inr, arith, mul-le-mul_right, zero-mul, suc-mul, mul-zero, mul-div_cancel, div-add-mod', leb-true, ltb-true, lt-ltb, eqb-true, eq-eqb}
 use Rattle.std.proofs.Math.Decide.{dec_lt}
 use Rattle.std.proofs.Math.Nat.{mul-mod_left}
-use Rattle.theory.specs.Counts.{count}
 use Rattle.theory.specs.Lists.{member}
 use Rattle.theory.specs.Assignments.{all}
 use Rattle.theory.specs.SingleRows.{single}

@@ -1,4 +1,6 @@
 // Rules that ask different places of their jobs.
+#![tactic(auto)]
+
 mod group;
 mod narrow;
 mod rule;

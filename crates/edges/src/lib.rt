@@ -1,3 +1,5 @@
+#![tactic(auto)]
+
 // Examples at the edges of the list kinds, of narrowing by one rule, and of settling.
 #[cfg(test)]
 mod distinct_tests;

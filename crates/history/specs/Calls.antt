@@ -1,7 +1,7 @@
 -- What one call on a closed board says, at the cuts that are counted then, and what it leaves.
 use Rattle.std.specs.Prelude.{◌≡◌, ℕ, ◌+◌, ◌≤◌, Bool, true, false, cond, List, length, take, drop, Some, None, Option, slice_set}
 use Rattle.refusals.specs.Codes.{Code, says}
-use Rattle.places.specs.Families.{Family, family, fixed}
+use Rattle.places.specs.Families.{Family, fixed}
 use Rattle.cuts.specs.declared.cut.Cut.{Cut}
 use Rattle.rules.specs.Progressions.{jobs_of}
 use Rattle.rules.specs.declared.progression.Progression.{Progression}

@@ -13,7 +13,7 @@ use Rattle.history.specs.declared.event.Ask.{Ask}
 use Rattle.history.specs.declared.event.Ask.TheVariants.{Cut as CutOf, Return, Trial, Group, Settle}
 use Rattle.history.specs.declared.event.Call.{Call}
 use Rattle.history.specs.declared.event.Event.{Event}
-use Rattle.history.specs.Calls.{Kinds, Said, said, refused, succeeds, AskSays, log_by, stage_by, StandingAfter, GroupBy}
+use Rattle.history.specs.Calls.{Kinds, Said, said, succeeds, AskSays, log_by, stage_by, StandingAfter, GroupBy}
 
 -- what a day does not change: the number of jobs, the bed width, the opened table, the accepted rules in order, and how long the
 -- whole tables are

@@ -1,4 +1,6 @@
 // A day on a board: any sequence of calls, and the one law that covers it.
+#![tactic(auto)]
+
 mod ask;
 mod call;
 mod day;

@@ -1,5 +1,5 @@
 -- The layout of a sheet: blocks of 512 bytes, and what is wrong with one.
-use Rattle.std.specs.Prelude.{◌≡◌, ℕ, zero, suc, ◌+◌, ◌-◌, ◌*◌, ◌/◌, ◌%◌, Bool, true, false, cond, not, List, [], ◌∷◌, length, Some, None, Option, ◌==◌, nat_le, nat_lt, slice_index}
+use Rattle.std.specs.Prelude.{ℕ, zero, suc, ◌+◌, ◌-◌, ◌*◌, ◌/◌, ◌%◌, Bool, true, false, cond, List, [], ◌∷◌, length, Some, None, Option, ◌==◌, nat_le, nat_lt, slice_index}
 use Rattle.layout.specs.declared.fault.BlockFault.{BlockFault}
 use Rattle.layout.specs.declared.fault.BlockFault.TheVariants.{Check, Position, Letter, Count, Padding}
 use Rattle.layout.specs.declared.fault.LayoutFault.{LayoutFault}

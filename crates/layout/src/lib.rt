@@ -1,4 +1,6 @@
 // The layout of sheets: which bytes are blocks of a sound sheet, and the first fault of those that are not.
+#![tactic(auto)]
+
 mod block;
 mod bytes;
 mod fault;

@@ -1,4 +1,6 @@
 // Largest matchings of jobs to places.
+#![tactic(auto)]
+
 mod bipartite;
 mod jobs;
 mod matching;

@@ -1,11 +1,11 @@
 -- The binary digits of a number as a set: reading one, shifting, joining, counting, the lowest.
-use Rattle.std.proofs.Common.{◌≡◌, ℕ, zero, suc, ◌+◌, ◌-◌, ◌*◌, ◌/◌, ◌%◌, ◌^◌, ◌<◌, ◌≤◌, Bool, true, false, cond, not, ◌&&◌, ◌||◌, eqb, ltb, ◌⊎◌, sym, refl, ap, ◌∙◌, inl, inr, ⊎_elim, lt_of_lt_of_le, pow-suc, div-one, add-one, one-add, arith, pow_mono}
+use Rattle.std.proofs.Common.{◌≡◌, ℕ, zero, suc, ◌+◌, ◌*◌, ◌/◌, ◌%◌, ◌^◌, ◌<◌, true, false, cond, not, ◌&&◌, ◌||◌, eqb, sym, refl, ap, ◌∙◌, ⊎_elim, lt_of_lt_of_le, pow-suc, div-one, one-add, arith, pow_mono}
 use native.Mathlib.Nat.{div-eq_of_lt, mod-one}
 use lib.Bits.{bit_and, bit_or, bit_xor, and_shr, and_mod, or_shr, or_mod, xor_shr, xor_mod}
-use lib.Count.{ones, ones_in, count_trailing_zeros, ones_cat, ones_step, under}
+use lib.Count.{ones, ones_in, count_trailing_zeros, ones_cat, under}
 use lib.Dec.{eqb-suc-suc, eqb-zero-suc, eqb-suc-zero}
-use Rattle.std.proofs.lemmas.Nat.{shr-shr, mod-pow-add, mod_below, pow_pos, div_below}
-use Rattle.std.proofs.lemmas.Bool.{lt-ltb, ltb-true, cases_lt, false≢true, eqb-true, eq-eqb, ne_eqb}
+use Rattle.std.proofs.lemmas.Nat.{shr-shr, mod-pow-add, mod_below, pow_pos}
+use Rattle.std.proofs.lemmas.Bool.{lt-ltb, cases_lt, false≢true}
 use Rattle.theory.specs.Counts.{bit, sum, count}
 use Rattle.places.specs.Sets.{digit, row_has}
 

@@ -1,9 +1,9 @@
 -- Reads and writes of a table of lists, as its family sees them.
-use Rattle.std.proofs.Common.{◌≡◌, ℕ, zero, suc, ◌<◌, ◌≤◌, Bool, true, false, cond, eqb, ◌≢◌, List, [], ◌∷◌, length, get_or, set, IfSome, Some, None, Option, sym, refl, ap, ◌∙◌, subst, le_of_suc-le-suc, not-suc-le-zero, arith}
+use Rattle.std.proofs.Common.{◌≡◌, ℕ, zero, suc, ◌<◌, ◌≤◌, Bool, true, false, ◌≢◌, List, [], ◌∷◌, length, get_or, set, IfSome, Some, None, Option, sym, refl, ap, ◌∙◌, subst, le_of_suc-le-suc, not-suc-le-zero, arith}
 use mathlib.Core.Path.{fun_ext}
 use Rattle.places.specs.Sets.{First}
 use Rattle.std.proofs.lemmas.Bool.{false≢true}
-use Rattle.places.specs.Families.{Family, family}
+use Rattle.places.specs.Families.{family}
 
 module _ {L : Type 0} (has : L → ℕ → Bool) where
   pub family_at : (xs : List L) (j : ℕ) (d : L) (p : ℕ) → j < length xs → family has xs j p ≡ has (get_or xs j d) p

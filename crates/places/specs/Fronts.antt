@@ -1,5 +1,5 @@
 -- Rising lists of places, and the eight numbers that store one.
-use Rattle.std.specs.Prelude.{◌≡◌, ℕ, zero, suc, ◌+◌, ◌-◌, ◌<◌, ◌≤◌, Bool, true, false, cond, not, ◌&&◌, ◌||◌, List, [], ◌∷◌, ◌++◌, length, take, set, replicate, Some, None, filter, Option, MatchOption, ◌==◌, ◌≢◌, nat_eq, nat_le, nat_lt, slice_index, slice_index_or, slice_set, refl}
+use Rattle.std.specs.Prelude.{◌≡◌, ℕ, zero, suc, ◌+◌, ◌-◌, ◌<◌, ◌≤◌, Bool, true, false, cond, not, ◌&&◌, ◌||◌, List, [], ◌∷◌, ◌++◌, length, take, set, replicate, Some, None, filter, Option, ◌==◌, ◌≢◌, nat_eq, nat_le, nat_lt, slice_index, slice_index_or, slice_set, refl}
 use Rattle.std.proofs.Common.{⊎_elim, sym, ap, ◌∙◌, zero-le, arith}
 use Rattle.std.proofs.lemmas.List.{set_at, append_assoc, append-nil, length_push}
 use Rattle.std.proofs.lemmas.List.Elements.{filter_more}

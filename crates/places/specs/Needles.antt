@@ -1,5 +1,5 @@
 -- The set that the numbers stored in a needle list stand for: their longest front part that a making would pass.
-use Rattle.std.specs.Prelude.{ℕ, ◌+◌, Bool, true, false, cond, ◌&&◌, List, [], ◌∷◌, length, nat_le, nat_lt}
+use Rattle.std.specs.Prelude.{ℕ, ◌+◌, Bool, true, cond, ◌&&◌, List, [], ◌∷◌, length, nat_le, nat_lt}
 use Rattle.theory.specs.Lists.{member}
 
 -- x may follow numbers below low

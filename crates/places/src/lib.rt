@@ -1,4 +1,6 @@
 // Sets of places, the kinds that they are stored in, and families of them.
+#![tactic(auto)]
+
 mod family;
 mod needles;
 mod rising;

@@ -1,4 +1,6 @@
 // Carries built-in courses over a board and prints what stands.
+#![tactic(auto)]
+
 mod courses;
 mod day;
 mod listing;

@@ -1,7 +1,7 @@
 -- One entry more, and one less, of a ring.
-use Rattle.std.proofs.Common.{◌≡◌, ℕ, zero, suc, ◌+◌, ◌-◌, ◌<◌, ◌≤◌, ◌⊎◌, List, [], ◌∷◌, ◌++◌, length, get_or, take, drop, set, sym, refl, ap, ◌∙◌, subst, inl, inr, ⊎_elim, le_of_suc-le-suc, not-suc-le-zero, add-one, arith, length-append, length-drop, length-take}
+use Rattle.std.proofs.Common.{◌≡◌, ℕ, zero, suc, ◌+◌, ◌-◌, ◌<◌, ◌≤◌, ◌⊎◌, List, [], ◌∷◌, ◌++◌, length, get_or, take, drop, set, sym, ap, ◌∙◌, subst, ⊎_elim, not-suc-le-zero, arith, length-append, length-drop, length-take}
 use lib.Seq.{take-set-lt}
-use Rattle.std.proofs.lemmas.List.{take_more_set, drop-set-add, take-set-le, drop-set-lt, set-append_left, set-append_right, take-append-le, take-take, take_all, drop_all, drop_more, take_more, append_assoc, append-nil, length-take-le}
+use Rattle.std.proofs.lemmas.List.{take_more_set, drop-set-add, take-set-le, drop-set-lt, set-append_left, set-append_right, take-append-le, take-take, drop_all, drop_more, take_more, append_assoc, append-nil, length-take-le}
 use Rattle.queue.specs.declared.RingQueue.{RingQueue}
 use Rattle.queue.specs.Ring.{ring, contents, entries, Ready}
 

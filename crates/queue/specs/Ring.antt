@@ -1,6 +1,6 @@
 -- What a ring over a slice of slots holds.
 use Rattle.queue.specs.declared.RingQueue.{RingQueue}
-use Rattle.std.specs.Prelude.{ℕ, ◌<◌, ◌≤◌, List, ◌++◌, length, take, drop}
+use Rattle.std.specs.Prelude.{ℕ, ◌<◌, ◌≤◌, List, ◌++◌, take, drop}
 
 -- the slots in the order of the ring, from the head on
 abbrev pub ring : {T : Type 0} → ℕ → List T → List T

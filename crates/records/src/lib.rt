@@ -1,4 +1,6 @@
 // One rule of any of the three kinds.
+#![tactic(auto)]
+
 mod record;
 
 pub use record::RuleRecord;

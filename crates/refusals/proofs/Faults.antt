@@ -3,7 +3,7 @@ use Rattle.std.proofs.Common.{◌≡◌, ℕ, suc, ◌+◌, ◌<◌, ◌≤◌, 
 use Rattle.std.proofs.lemmas.List.{at_drop_more, at_drop_all}
 use Rattle.std.proofs.lemmas.Bool.{cond-true, cond-false, cases_Bool}
 use Rattle.std.specs.List.{AllByRecursion as All}
-use Rattle.refusals.specs.Codes.{Code, code, first_fault, then_check}
+use Rattle.refusals.specs.Codes.{code, first_fault, then_check}
 
 -- no element before i is at fault
 abbrev pub Passed : {X : Type 0} → (X → Bool) → ℕ → List X → ℕ → Type 0

@@ -1,3 +1,5 @@
+#![tactic(auto)]
+
 // Why a call was refused. The definition `says` gives each case its number and index.
 #[derive(Clone, Copy, PartialEq, Eq, Debug)]
 pub enum Refusal {

@@ -4,7 +4,7 @@ use Rattle.std.proofs.lemmas.Bool.{cases_eq, ne_eqb, eq-eqb, and_parts, and_from
 use Rattle.places.specs.Sets.{without}
 use Rattle.places.specs.Families.{Family, family, Inside}
 use Rattle.places.proofs.Families.{family_at, family_set_same, family_set_other}
-use Rattle.rules.specs.Narrowing.{Support, Narrowed, Scope, Drawn, Misses}
+use Rattle.rules.specs.Narrowing.{Support, Narrowed, Scope, Misses}
 use Rattle.rules.specs.Sweeping.{Trimmed, Swept, SweptAt}
 
 -- no list but that of one job is touched, and that one loses p

@@ -1,12 +1,11 @@
 -- Supports of rules over three jobs.
-use Rattle.std.proofs.Common.{◌≡◌, ℕ, zero, suc, ◌+◌, ◌-◌, ◌<◌, ◌≤◌, Bool, true, false, cond, eqb, leb, ◌⊎◌, List, [], ◌∷◌, length, get_or, Some, None, Decides, sym, refl, ap, ◌∙◌, subst, inl, inr, ⊎_elim, le_of_suc-le-suc, not-suc-le-zero, arith, rules}
-use Rattle.std.proofs.lemmas.Bool.{false≢true, both_ways, eqb-true, eq-eqb, leb-true, le-leb, cond-true, cases_lt}
-use Rattle.rules.specs.declared.triple.Third.{Third}
+use Rattle.std.proofs.Common.{◌≡◌, ℕ, zero, suc, ◌+◌, ◌-◌, ◌<◌, ◌≤◌, Bool, true, false, cond, leb, ◌⊎◌, List, [], ◌∷◌, get_or, Some, None, Decides, sym, refl, ap, ◌∙◌, subst, inl, inr, ⊎_elim, le_of_suc-le-suc, not-suc-le-zero, arith, rules}
+use Rattle.std.proofs.lemmas.Bool.{false≢true, eqb-true, eq-eqb, leb-true, le-leb, cond-true, cases_lt}
 use Rattle.rules.specs.declared.triple.Third.TheVariants.{Sum, Difference, Distance}
 use Rattle.std.proofs.lemmas.Bool.Decides.{Decides-like}
 use Rattle.places.specs.Families.{Family}
 use Rattle.rules.specs.Narrowing.{Support, Drawn, Scope}
-use Rattle.rules.specs.Triples.{triple, is_sum, is_gap, third, wanted, Meets, apart}
+use Rattle.rules.specs.Triples.{triple, is_sum, is_gap, wanted, Meets, apart}
 
 -- three places that pass a test, each held at its job
 pub record Row (test : ℕ → ℕ → ℕ → Bool) (f : Family) (a b c x y z : ℕ) : Type 0 where

@@ -1,4 +1,6 @@
 // Rules over jobs, narrowing by one rule, and the rules on three jobs.
+#![tactic(auto)]
+
 mod check;
 mod gap;
 mod narrow;

@@ -1,4 +1,6 @@
 // Settling: the lists are narrowed by the rules until the greatest consistent family is left.
+#![tactic(auto)]
+
 mod agenda;
 mod checked;
 mod counts;

@@ -43,15 +43,15 @@ returns g c =
 pub loop-root-preserved : goal.loop-root-preserved
 loop-root-preserved g c =
     elim c.if-index-root.branch [
-      then-index-root w ↦
-        simp (w.cursors-is, w.index-is, w.labels-is, w.nodes-is, w.cuts-is, w.path-is, w.next-is) (
-          w.explore-next.ensures.state,
-          below_more (λ k. filled w.explore-next.new.index k ≡ true) c.loop-root.root (λ k l. w.explore-next.ensures.seen k (c.loop-root.invariant.1 k l)) w.explore-next.ensures.root,
-        )
+      | then-index-root w ↦
+          simp (w.cursors-is, w.index-is, w.labels-is, w.nodes-is, w.cuts-is, w.path-is, w.next-is) (
+            w.explore-next.ensures.state,
+            below_more (λ k. filled w.explore-next.new.index k ≡ true) c.loop-root.root (λ k l. w.explore-next.ensures.seen k (c.loop-root.invariant.1 k l)) w.explore-next.ensures.root,
+          )
       | else-index-root w ↦
-        let here : filled c.loop-root.index c.loop-root.root ≡ true = search rules in
-        simp (w.cursors-is, w.index-is, w.labels-is, w.nodes-is, w.cuts-is, w.path-is, w.next-is) (
-          c.loop-root.invariant.0,
-          below_more (λ k. filled c.loop-root.index k ≡ true) c.loop-root.root c.loop-root.invariant.1 here,
-        )
+          let here : filled c.loop-root.index c.loop-root.root ≡ true = search rules in
+          simp (w.cursors-is, w.index-is, w.labels-is, w.nodes-is, w.cuts-is, w.path-is, w.next-is) (
+            c.loop-root.invariant.0,
+            below_more (λ k. filled c.loop-root.index k ≡ true) c.loop-root.root c.loop-root.invariant.1 here,
+          )
     ]

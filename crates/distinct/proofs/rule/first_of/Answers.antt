@@ -1,4 +1,4 @@
-use Rattle.std.proofs.Common.{◌≡◌, ℕ, zero, suc, get_or, sym, refl, ap, arith}
+use Rattle.std.proofs.Common.{◌≡◌, ℕ, zero, suc, get_or, refl, arith}
 use Rattle.rules.specs.Progressions.{spread}
 use Rattle.distinct.proofs.rule.first_of.Goals as goal
 

@@ -1,4 +1,4 @@
-use Rattle.std.proofs.Common.{length, refl, rules}
+use Rattle.std.proofs.Common.{length, refl}
 use Rattle.board.specs.Book.{held_by}
 use Rattle.board.specs.Outcomes.{lengths}
 use Rattle.history.specs.Calls.{kinds}

@@ -1,4 +1,4 @@
-use Rattle.std.proofs.Common.{arith, rules}
+use Rattle.std.proofs.Common.{rules}
 use Rattle.layout.specs.Layout.{right_padding}
 use Rattle.layout.proofs.Laws.{end_within}
 use Rattle.layout.proofs.block.padding_holds.Goals as goal

@@ -1,4 +1,4 @@
-use Rattle.std.proofs.Common.{◌≡◌, ◌+◌, ◌-◌, ◌/◌, length}
+use Rattle.std.proofs.Common.{◌≡◌, ◌-◌}
 use Rattle.layout.specs.Layout.{fault_from, blocks}
 use Rattle.layout.proofs.sheet.layout_fault.Given as goal
 

@@ -1,4 +1,4 @@
-use Rattle.std.proofs.Common.{◌-◌, length}
+use Rattle.std.proofs.Common.{length}
 use Rattle.queue.specs.Ring.{entries, Ready}
 use Rattle.matching.specs.Searching.{left, Searching}
 use Rattle.matching.proofs.search.search.Given as goal

@@ -1,4 +1,4 @@
-use Rattle.std.proofs.Common.{◌≡◌, ℕ, suc, ◌+◌, List, [], ◌∷◌, ◌++◌, length, take, set, sym, ◌∙◌, subst, ap₂, subst₂, add-one, arith}
+use Rattle.std.proofs.Common.{◌≡◌, ℕ, suc, List, [], ◌∷◌, ◌++◌, length, take, set, sym, ◌∙◌, subst, ap₂, subst₂, add-one, arith}
 use Rattle.queue.specs.declared.RingQueue.{RingQueue}
 use Rattle.queue.specs.Ring.{entries, ring, Ready}
 use Rattle.matching.specs.Searching.{Rooted}

@@ -1,4 +1,4 @@
-use Rattle.std.proofs.Common.{◌≡◌, get_or, take, set, sym, refl, ap, ◌∙◌, arith, take_all}
+use Rattle.std.proofs.Common.{get_or, take, set, sym, refl, ap, ◌∙◌, arith, take_all}
 use Rattle.std.proofs.lemmas.List.{take_more, length-take-le}
 use Rattle.theory.specs.Lists.{member}
 use Rattle.places.specs.Needles.{front_part}

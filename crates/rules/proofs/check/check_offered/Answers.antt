@@ -1,4 +1,4 @@
-use Rattle.std.proofs.Common.{◌≡◌, ◌+◌, cond, not, length, Some, None, sym, ap, ◌∙◌, zero-add}
+use Rattle.std.proofs.Common.{◌+◌, cond, not, length, Some, None, sym, ap, ◌∙◌, zero-add}
 use Rattle.refusals.specs.Codes.{code, then_check}
 use Rattle.refusals.proofs.Faults.{fault_push}
 use Rattle.rules.specs.Refusals.{unlawful}

@@ -1,4 +1,4 @@
-use Rattle.std.proofs.Common.{◌≡◌, ℕ, length, get_or, sym, ◌∙◌, subst, arith}
+use Rattle.std.proofs.Common.{ℕ, get_or, sym, ◌∙◌, subst, arith}
 use Rattle.places.specs.Families.{family}
 use Rattle.places.proofs.Families.{family_job}
 use Rattle.rules.specs.Narrowing.{Scope}

@@ -1,4 +1,3 @@
-use Rattle.std.proofs.Common.{◌≡◌, length, get_or, set, sym, ◌∙◌}
 use Rattle.std.proofs.lemmas.Bool.{both_ways}
 use Rattle.std.proofs.lemmas.Bool.Decides.{not_from_Decides}
 use Rattle.rules.proofs.Narrowing.{trimmed_refl, trimmed_struck, struck_job, struck_gone}

@@ -1,4 +1,4 @@
-use Rattle.std.proofs.Common.{◌≡◌, Decides, subst}
+use Rattle.std.proofs.Common.{Decides, subst}
 use Rattle.places.specs.Families.{family}
 use Rattle.rules.specs.Triples.{Meets}
 use Rattle.places.proofs.Families.{family_list}

@@ -1,4 +1,4 @@
-use Rattle.std.proofs.Common.{◌≡◌, length, sym, refl, ap, ◌∙◌, arith}
+use Rattle.std.proofs.Common.{length, sym, ◌∙◌, arith}
 use Rattle.cuts.specs.declared.cut.Action.TheVariants.{Fix}
 use Rattle.cuts.specs.declared.cut.Cut.{Cut}
 use Rattle.board.specs.Book.{held_by}

@@ -1,4 +1,4 @@
-use Rattle.std.proofs.Common.{◌≡◌, ℕ, sym, ◌∙◌, subst, arith}
+use Rattle.std.proofs.Common.{ℕ, sym, ◌∙◌, subst, arith}
 use Rattle.rules.specs.Narrowing.{Scope}
 use Rattle.rules.specs.Progressions.{jobs_of}
 use Rattle.board.proofs.Groupings.{told_at}
