@@ -1,7 +1,7 @@
 -- The distinct rule that a rule names, and its group.
 use Rattle.std.proofs.Common.{◌≡◌, ℕ, zero, suc, ◌-◌, ◌<◌, ◌≤◌, Bool, true, List, [], ◌∷◌, length, get_or, take, Some, None, Option, sym, refl, ap, ◌∙◌, subst, le_of_suc-le-suc, not-suc-le-zero, arith}
 use native.Mathlib.Nat.{sub-zero}
-use Rattle.std.specs.List.{AllByRecursion as All}
+use Rattle.std.specs.List.{AllByRecursion}
 use Rattle.places.specs.Families.{Family, family}
 use Rattle.cuts.specs.Current.{current}
 use Rattle.cuts.specs.declared.cut.Cut.{Cut}
@@ -29,7 +29,7 @@ module _ {R : Type 0} (names : R → Option Progression) where
   pub named_scope : (scope : R → List ℕ) (admits : R → List ℕ → Bool) (lawful : R → ℕ → Bool) (n : ℕ)
       → ((r : R) (m : ℕ) → lawful r m ≡ true → Scope m (scope r))
       → ((r : R) (d : Progression) → names r ≡ Some d → Names (scope r) (admits r) d)
-      → (rules : List R) (i : ℕ) (d : Progression) → All (λ r. lawful r n ≡ true) rules → named_at names rules i ≡ Some d → Scope n (jobs_of d)
+      → (rules : List R) (i : ℕ) (d : Progression) → AllByRecursion (λ r. lawful r n ≡ true) rules → named_at names rules i ≡ Some d → Scope n (jobs_of d)
   named_scope scope admits lawful n scoped named [] i d a e = let z : ◌≡◌ {A = ℕ} 0 1 = cc in absurd (omega arith)
   named_scope scope admits lawful n scoped named (r ∷ rules) zero d a e = subst (λ js. Scope n js) (named r d e).jobs (scoped r n a.0)
   named_scope scope admits lawful n scoped named (r ∷ rules) (suc i) d a e = named_scope scope admits lawful n scoped named rules i d a.1 e

@@ -2,7 +2,7 @@
 use Rattle.std.proofs.Common.{◌≡◌, ℕ, ◌-◌, ◌≤◌, Bool, true, List, ◌++◌, length, take, drop, Some, None, Option, sym, refl, ap, ◌∙◌, subst, inr}
 use native.Mathlib.Nat.{sub-zero}
 use Rattle.std.proofs.lemmas.List.{drop_at, take_at, length-take-le}
-use Rattle.std.specs.List.{AllByRecursion as All}
+use Rattle.std.specs.List.{AllByRecursion}
 use Rattle.refusals.specs.Codes.{Code, code}
 use Rattle.places.specs.Families.{Family, family}
 use Rattle.cuts.specs.Current.{current}
@@ -14,9 +14,9 @@ use Rattle.board.specs.Moments.{Reached, SettleSays, Stands}
 pub front_length : {X : Type 0} (n : ℕ) (xs : List X) → n ≤ length xs → length (take (n - 0) xs) ≡ n
 front_length n xs h = ap (λ k. length (take k xs)) (sub-zero n) ∙ length-take-le n xs h
 
-pub front_lawful : {X : Type 0} (lawful : X → ℕ → Bool) (k n m : ℕ) (xs : List X) → m ≡ n → All (λ r. lawful r n ≡ true) (take k xs) → All (λ r. lawful r m ≡ true) (take (k - 0) xs)
+pub front_lawful : {X : Type 0} (lawful : X → ℕ → Bool) (k n m : ℕ) (xs : List X) → m ≡ n → AllByRecursion (λ r. lawful r n ≡ true) (take k xs) → AllByRecursion (λ r. lawful r m ≡ true) (take (k - 0) xs)
 front_lawful lawful k n m xs e h =
-    subst (λ (j : ℕ). All (λ r. lawful r m ≡ true) (take j xs)) (sym (sub-zero k)) (subst (λ (i : ℕ). All (λ r. lawful r i ≡ true) (take k xs)) (sym e) h)
+    subst (λ (j : ℕ). AllByRecursion (λ r. lawful r m ≡ true) (take j xs)) (sym (sub-zero k)) (subst (λ (i : ℕ). AllByRecursion (λ r. lawful r i ≡ true) (take k xs)) (sym e) h)
 
 module _ {L R : Type 0} (has : L → ℕ → Bool) (scope : R → List ℕ) (admits : R → List ℕ → Bool) where
   -- the same at a family and a number of jobs that are equal

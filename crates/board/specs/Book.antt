@@ -1,7 +1,7 @@
 -- The book: which refusal each call of a board gives, by the numbers that the board holds and the tables that the call is lent.
 -- A list kind is given by `has` and its limit, a rule kind by `lawful`.
 use Rattle.std.specs.Prelude.{◌≡◌, ℕ, zero, suc, ◌+◌, ◌*◌, ◌≤◌, Bool, true, not, ◌||◌, List, [], ◌∷◌, ◌++◌, length, take, is_some, None, Option, ◌==◌, nat_le, nat_lt}
-use Rattle.std.specs.List.{AllByRecursion as All}
+use Rattle.std.specs.List.{AllByRecursion}
 use Rattle.refusals.specs.Codes.{Code, then_check, fails_if, first_fault}
 use Rattle.rules.specs.Refusals.{no_board, unlawful}
 use Rattle.rules.specs.declared.progression.Progression.{Progression}
@@ -139,4 +139,4 @@ pub record Ready {R : Type 0} (limit : ℕ) (lawful : R → ℕ → Bool) (b : H
   pub working : b.jobs ≤ l.working
   pub numbers : 8 * (b.jobs + limit) ≤ l.numbers
   pub wakes : b.rules ≤ l.wakes
-  pub all_lawful : All (λ r. lawful r b.jobs ≡ true) (take b.rules rules)
+  pub all_lawful : AllByRecursion (λ r. lawful r b.jobs ≡ true) (take b.rules rules)

@@ -1,6 +1,6 @@
 // What settlings, trials and group questions check of their tables.
 ghost use Rattle.std.specs.Prelude.{◌≡◌, ◌+◌, ◌*◌, ◌≤◌, true, length, take, OnOk};
-ghost use Rattle.std.specs.List.{AllByRecursion as All};
+ghost use Rattle.std.specs.List.{AllByRecursion};
 ghost use Rattle.refusals.specs.Codes.{refusal_of};
 ghost use Rattle.board.specs.Book.{held_by, held_refusal, short_tables};
 
@@ -35,7 +35,7 @@ impl Numbers {
     ) -> Result<(), Refusal>
         requires { (self.now.n ≤ length opened.now) × (self.now.rules ≤ length rules.now) × (self.now.cuts ≤ length log.now) }
         ensures refusal { refusal_of result ≡ held_refusal L.has L.limit R.lawful (held_by self.now) opened.now rules.now log.now }
-        ensures lawful { OnOk result (All (λ x. R.lawful x self.now.n ≡ true) (take self.now.rules rules.now)) }
+        ensures lawful { OnOk result (AllByRecursion (λ x. R.lawful x self.now.n ≡ true) (take self.now.rules rules.now)) }
     {
         let n = self.n as usize;
         let held = self.rules;

@@ -1,6 +1,6 @@
 // Settlings.
 ghost use Rattle.std.specs.Prelude.{◌≡◌, ◌+◌, ◌*◌, ◌≤◌, true, length, take, MatchResult, OnOk};
-ghost use Rattle.std.specs.List.{AllByRecursion as All};
+ghost use Rattle.std.specs.List.{AllByRecursion};
 ghost use Rattle.refusals.specs.Codes.{refusal_of};
 ghost use Rattle.places.specs.Families.{family};
 ghost use Rattle.cuts.specs.Current.{current};
@@ -31,7 +31,7 @@ pub(crate) fn settle_current<L: PlaceSet + Copy, R: Rule>(
     requires rules { length rules.now ≤ 64 }
     requires slots { length rules.now ≤ length wake_ups.old }
     requires few { length lists.old ≤ 256 }
-    requires lawful { All (λ r. R.lawful r (length lists.old) ≡ true) rules.now }
+    requires lawful { AllByRecursion (λ r. R.lawful r (length lists.old) ≡ true) rules.now }
     requires memory { 8 * (length lists.old + L.limit) ≤ length numbers.old }
     ensures { Reached L.has R.scope R.admits rules.now (length lists.old) (current (family L.has opened.now) cuts.now) lists.new result }
 {

@@ -2,7 +2,7 @@
 use Rattle.std.proofs.Common.{◌≡◌, ℕ, suc, ◌+◌, ◌<◌, ◌≤◌, Bool, true, false, cond, not, List, [], ◌∷◌, ◌++◌, length, get_or, drop, Some, None, sym, refl, ap, ◌∙◌, ⊎_elim, arith}
 use Rattle.std.proofs.lemmas.List.{at_drop_more, at_drop_all}
 use Rattle.std.proofs.lemmas.Bool.{cond-true, cond-false, cases_Bool}
-use Rattle.std.specs.List.{AllByRecursion as All}
+use Rattle.std.specs.List.{AllByRecursion}
 use Rattle.refusals.specs.Codes.{code, first_fault, then_check}
 
 -- no element before i is at fault
@@ -40,7 +40,7 @@ fault_push bad n i (y ∷ xs) x =
     [ true ↦ refl | false ↦ more ]
 
 -- where no element is at fault, all pass
-pub all_pass : {X : Type 0} (good : X → Bool) (n i : ℕ) (xs : List X) → None ≡ first_fault (λ x. not (good x)) n i xs → All (λ x. good x ≡ true) xs
+pub all_pass : {X : Type 0} (good : X → Bool) (n i : ℕ) (xs : List X) → None ≡ first_fault (λ x. not (good x)) n i xs → AllByRecursion (λ x. good x ≡ true) xs
 all_pass good n i [] e = tt
 all_pass good n i (x ∷ xs) e =
     ⊎_elim

@@ -1,6 +1,6 @@
 // Checks of rules: the refusal names the first one at fault.
 ghost use Rattle.std.specs.Prelude.{◌≡◌, ◌≤◌, true, [], ◌∷◌, ◌++◌, length, OnOk};
-ghost use Rattle.std.specs.List.{AllByRecursion as All};
+ghost use Rattle.std.specs.List.{AllByRecursion};
 ghost use Rattle.refusals.specs.Codes.{refusal_of, first_fault};
 ghost use Rattle.rules.specs.Refusals.{unlawful};
 
@@ -11,7 +11,7 @@ use refusals::Refusal;
 pub fn check_rules<R: Rule>(rules: &[R], n: usize) -> Result<(), Refusal>
     requires { length rules.now ≤ 64 }
     ensures refusal { refusal_of result ≡ first_fault (unlawful R.lawful n) 12 0 rules.now }
-    ensures lawful { OnOk result (All (λ x. R.lawful x n ≡ true) rules.now) }
+    ensures lawful { OnOk result (AllByRecursion (λ x. R.lawful x n ≡ true) rules.now) }
 {
     for (i, rule) in rules.iter().enumerate() {
         if !rule.is_lawful(n) {

@@ -1,6 +1,6 @@
 -- A line of wake-ups beside a row of marks.
 use Rattle.std.proofs.Common.{◌≡◌, ℕ, zero, suc, ◌+◌, ◌<◌, ◌≤◌, Bool, true, false, cond, eqb, List, [], ◌∷◌, ◌++◌, length, get_or, take, set, replicate, sym, refl, ap, ◌∙◌, subst, ⊎_elim, arith, length-set, get_or-set_other, get_or-set_same}
-use Rattle.std.specs.List.{AllByRecursion as All}
+use Rattle.std.specs.List.{AllByRecursion}
 use Rattle.std.proofs.ByRecursion.{All-push}
 use Rattle.std.proofs.lemmas.Bool.{cases_eq, cond-true, cond-false, eq-eqb, ne_eqb}
 use Rattle.queue.specs.declared.RingQueue.{RingQueue}
@@ -19,7 +19,7 @@ bit_off : (r i : ℕ) → (r ≡ i → ⊥) → bit (eqb r i) ≡ 0
 bit_off r i ne = ap bit (ne_eqb r i ne)
 
 -- the rules of a line, counted rule by rule
-sum_times : (n : ℕ) (ws : List WakeUp) → All (λ w. w.rule < n) ws → sum (λ i. times i ws) n ≡ length ws
+sum_times : (n : ℕ) (ws : List WakeUp) → AllByRecursion (λ w. w.rule < n) ws → sum (λ i. times i ws) n ≡ length ws
 sum_times n [] a = sum_zero (λ i. 0) n (λ k l. refl)
 sum_times n (w ∷ ws) a =
     let here : sum (λ i. bit (eqb w.rule i)) n ≡ 1 =
@@ -27,7 +27,7 @@ sum_times n (w ∷ ws) a =
     sum_add (λ i. bit (eqb w.rule i)) (λ i. times i ws) n ∙ omega (arith, here, sum_times n ws a.1)
 
 -- Each rule below n stands in the line once if it is marked, and not at all otherwise.
-module _ (n : ℕ) (marks : ℕ → Bool) (ws : List WakeUp) (known : All (λ w. w.rule < n) ws) (once : (i : ℕ) → i < n → times i ws ≡ bit (marks i)) where
+module _ (n : ℕ) (marks : ℕ → Bool) (ws : List WakeUp) (known : AllByRecursion (λ w. w.rule < n) ws) (once : (i : ℕ) → i < n → times i ws ≡ bit (marks i)) where
   length_line : length ws ≡ count marks n
   length_line = sym (sum_times n ws known) ∙ sum_eq (λ i. times i ws) (λ i. bit (marks i)) n once
 
@@ -94,7 +94,7 @@ agreed_new n q slots few room ready none =
       room = room;
       few = few;
       flags = refl;
-      known = subst (All (λ w. w.rule < n)) (sym empty) tt;
+      known = subst (AllByRecursion (λ w. w.rule < n)) (sym empty) tt;
       once = λ i l. ap (times i) empty ∙ sym (ap bit (marks_clear 64 i));
     }
 
@@ -105,7 +105,7 @@ agreed_wake a b slots after w ag low off same ready rules marked holds = record 
   room = omega (arith, same, ag.room, rules);
   few = omega (arith, ag.few, rules);
   flags = ap length marked ∙ (length-set a.waiting w.rule true ∙ ag.flags);
-  known = subst (λ n. All (λ v. v.rule < n) (line b after)) (sym rules) (subst (All (λ v. v.rule < a.rules)) (sym holds) (All-push (λ v. v.rule < a.rules) (line a slots) w ag.known low));
+  known = subst (λ n. AllByRecursion (λ v. v.rule < n) (line b after)) (sym rules) (subst (AllByRecursion (λ v. v.rule < a.rules)) (sym holds) (All-push (λ v. v.rule < a.rules) (line a slots) w ag.known low));
   once = λ i l.
       ap (times i) holds
       ∙ once_push a.rules (waits a) (waits b) (line a slots) w off (woken_one a b w.rule true marked (omega (arith, ag.few, ag.flags))) ag.once i (omega arith);
@@ -121,8 +121,8 @@ agreed_len a slots ag = omega (arith, length_entries a.queue slots ag.ready, mar
 
 -- the agenda after its oldest wake-up is taken
 module _ (a : Agenda) (slots : List WakeUp) (q : RingQueue) (w : WakeUp) (ag : Agreed a slots) (ready : Ready q (length slots)) (holds : line a slots ≡ w ∷ entries q slots) where
-  known_all : All (λ v. v.rule < a.rules) (w ∷ entries q slots)
-  known_all = subst (All (λ v. v.rule < a.rules)) holds ag.known
+  known_all : AllByRecursion (λ v. v.rule < a.rules) (w ∷ entries q slots)
+  known_all = subst (AllByRecursion (λ v. v.rule < a.rules)) holds ag.known
 
   cleared : (i : ℕ) → get_or (set a.waiting w.rule false) i false ≡ cond (eqb i w.rule) false (waits a i)
   cleared = mark_set a.waiting w.rule false (omega (arith, ag.few, ag.flags, known_all.0))
@@ -159,6 +159,6 @@ agreed_same a slots q ag ready holds = record {
   room = ag.room;
   few = ag.few;
   flags = ag.flags;
-  known = subst (All (λ v. v.rule < a.rules)) holds ag.known;
+  known = subst (AllByRecursion (λ v. v.rule < a.rules)) holds ag.known;
   once = λ i l. ap (times i) (sym holds) ∙ ag.once i l;
 }

@@ -1,6 +1,6 @@
 -- Narrowing keeps every consistent family, and what narrowing leaves is consistent; the laws of the greatest consistent family.
 use Rattle.std.proofs.Common.{◌≡◌, ℕ, zero, suc, ◌<◌, Bool, true, ◌&&◌, eqb, ltb, List, [], ◌∷◌, map, length, get_or, sym, refl, ap, ◌∙◌, subst, ⊎_elim, le_of_suc-le-suc, not-suc-le-zero}
-use Rattle.std.specs.List.{ContainsAt as Has, AllByRecursion as All}
+use Rattle.std.specs.List.{ContainsAt as Has, AllByRecursion}
 use Rattle.std.proofs.ByRecursion.{all-has, all_has_itself, All-weaker}
 use Rattle.std.proofs.lemmas.Bool.{or_left, or_right, eq-eqb, eqb-true, ltb-true, lt-ltb, and_parts, and_from}
 use Rattle.theory.specs.Lists.{member}
@@ -111,12 +111,12 @@ placing_consistent n at scope admits sc ok k p l h =
     }
 
 module _ {R : Type 0} (scope : R → List ℕ) (admits : R → List ℕ → Bool) where
-  all_placing : (n : ℕ) (at : ℕ → ℕ) (rules : List R) → All (λ r. Scope n (scope r)) rules → All (λ r. admits r (map at (scope r)) ≡ true) rules → AllConsistent scope admits rules (placing n at)
+  all_placing : (n : ℕ) (at : ℕ → ℕ) (rules : List R) → AllByRecursion (λ r. Scope n (scope r)) rules → AllByRecursion (λ r. admits r (map at (scope r)) ≡ true) rules → AllConsistent scope admits rules (placing n at)
   all_placing n at [] sc ok = tt
   all_placing n at (r ∷ rules) sc ok = (placing_consistent n at (scope r) (admits r) sc.0 ok.0, all_placing n at rules sc.1 ok.1)
 
   -- a whole placing lies inside the greatest consistent family
-  pub settled_placing : {rules : List R} {f g : Family} (n : ℕ) → All (λ r. Scope n (scope r)) rules → Settled scope admits rules f g → (at : ℕ → ℕ) → WholePlacing scope admits rules n f at → (j : ℕ) → j < n → g j (at j) ≡ true
+  pub settled_placing : {rules : List R} {f g : Family} (n : ℕ) → AllByRecursion (λ r. Scope n (scope r)) rules → Settled scope admits rules f g → (at : ℕ → ℕ) → WholePlacing scope admits rules n f at → (j : ℕ) → j < n → g j (at j) ≡ true
   settled_placing {rules} {f} n sc s at w j l = s.every j (at j) (record {
     family = placing n at;
     inside = λ i p h.

@@ -1,6 +1,6 @@
 -- Wake-ups rule by rule and job by job.
 use Rattle.std.proofs.Common.{◌≡◌, ℕ, zero, suc, ◌+◌, ◌*◌, ◌<◌, ◌≤◌, Bool, true, false, cond, not, ◌||◌, eqb, ◌⊎◌, List, [], ◌∷◌, ◌++◌, length, get_or, drop, set, sym, refl, ap, ◌∙◌, subst, inl, inr, ⊎_elim, suc-le-suc, not-suc-le-zero, arith, get_or-set_other, get_or-set_same}
-use Rattle.std.specs.List.{AllByRecursion as All}
+use Rattle.std.specs.List.{AllByRecursion}
 use Rattle.std.proofs.lemmas.List.{get_or_default, append-nil, append_assoc, drop_more}
 use Rattle.std.proofs.ByRecursion.{All-get_or, All-push, All-append, All-weaker}
 use Rattle.std.proofs.lemmas.Bool.{cases_eq, cond-true, cond-false, eq-eqb, ne_eqb, or_right, or_left, both_ways, cases_Bool, cases_lt}
@@ -22,10 +22,10 @@ use Rattle.settling.proofs.Consistency.{settled, consistent_kept, narrowed_consi
 pub same_rule : {R : Type 0} (rules : List R) (i : ℕ) (r x : R) → IsRule rules i r → IsRule rules i x → r ≡ x
 same_rule rules i r x p q = p.1 ∙ get_or_default rules i r x p.0 ∙ sym q.1
 
-pub rule_from_all : {X : Type 0} (P : X → Type 0) (xs : List X) (i : ℕ) (x : X) → IsRule xs i x → All P xs → P x
+pub rule_from_all : {X : Type 0} (P : X → Type 0) (xs : List X) (i : ℕ) (x : X) → IsRule xs i x → AllByRecursion P xs → P x
 rule_from_all P xs i x p all = subst P (sym p.1) (All-get_or P xs i x p.0 all)
 
-pub all_from_rules : {X : Type 0} (P : X → Type 0) (xs : List X) → ((i : ℕ) (x : X) → IsRule xs i x → P x) → All P xs
+pub all_from_rules : {X : Type 0} (P : X → Type 0) (xs : List X) → ((i : ℕ) (x : X) → IsRule xs i x → P x) → AllByRecursion P xs
 all_from_rules P [] h = tt
 all_from_rules P (x ∷ xs) h = (h zero x (omega arith, refl), all_from_rules P xs (λ i y p. h (suc i) y (suc-le-suc p.0, p.1)))
 
@@ -38,7 +38,7 @@ same_test m n t = ⊎_elim (λ (e : m ≡ n). e) (λ (ne : m ≡ n → ⊥). abs
 
 -- ---- the line
 
-all_joined : (P : WakeUp → Type 0) (b : Bool) (ws : List WakeUp) (w : WakeUp) → All P ws → P w → All P (joined b ws w)
+all_joined : (P : WakeUp → Type 0) (b : Bool) (ws : List WakeUp) (w : WakeUp) → AllByRecursion P ws → P w → AllByRecursion P (joined b ws w)
 all_joined P true ws w a p = a
 all_joined P false ws w a p = All-push P ws w a p
 
@@ -47,7 +47,7 @@ module _ {R : Type 0} {scope : R → List ℕ} {rules : List R} where
   waiting_wake {a} {b} {slots} {after} w wt right ag same holds = record {
     agreed = ag;
     number = same ∙ wt.number;
-    rightful = subst (All (Rightful scope rules)) (sym holds) (all_joined (Rightful scope rules) (waits a w.rule) (line a slots) w wt.rightful right);
+    rightful = subst (AllByRecursion (Rightful scope rules)) (sym holds) (all_joined (Rightful scope rules) (waits a w.rule) (line a slots) w wt.rightful right);
   }
 
   pub called_none : (P : WakeUp → Type 0) (ws : List WakeUp) → Called scope rules P ws ws
@@ -361,11 +361,11 @@ pub waiting_taken : {R : Type 0} {scope : R → List ℕ} {rules : List R} {a b 
 waiting_taken {scope = scope} {rules} {a} {b} {slots} w wt taken ag same = record {
   agreed = ag;
   number = same ∙ wt.number;
-  rightful = rest_of (Rightful scope rules) w (line b slots) (subst (All (Rightful scope rules)) taken.rest wt.rightful);
+  rightful = rest_of (Rightful scope rules) w (line b slots) (subst (AllByRecursion (Rightful scope rules)) taken.rest wt.rightful);
 }
   where
-    rest_of : (P : WakeUp → Type 0) (w : WakeUp) (ws : List WakeUp) → All P (w ∷ ws) → All P ws
+    rest_of : (P : WakeUp → Type 0) (w : WakeUp) (ws : List WakeUp) → AllByRecursion P (w ∷ ws) → AllByRecursion P ws
     rest_of P w ws all = all.1
 
 pub waiting_new : {R : Type 0} {scope : R → List ℕ} {rules : List R} {a : Agenda} {slots : List WakeUp} → Agreed a slots → a.rules ≡ length rules → line a slots ≡ [] → Waiting scope rules a slots
-waiting_new {scope = scope} {rules} ag number empty = record { agreed = ag; number = number; rightful = subst (All (Rightful scope rules)) (sym empty) tt }
+waiting_new {scope = scope} {rules} ag number empty = record { agreed = ag; number = number; rightful = subst (AllByRecursion (Rightful scope rules)) (sym empty) tt }

@@ -1,6 +1,6 @@
 -- Which rules wait, and in which order.
 use Rattle.std.specs.Prelude.{◌≡◌, ℕ, ◌+◌, ◌<◌, ◌≤◌, Bool, false, cond, List, [], ◌∷◌, ◌++◌, length, Some, None, Option, ◌==◌, slice_index_or}
-use Rattle.std.specs.List.{AllByRecursion as All}
+use Rattle.std.specs.List.{AllByRecursion}
 use Rattle.queue.specs.Ring.{entries, Ready}
 use Rattle.theory.specs.Counts.{bit}
 use Rattle.settling.specs.declared.agenda.WakeUp.{WakeUp}
@@ -25,7 +25,7 @@ pub record Agreed (a : Agenda) (slots : List WakeUp) : Type 0 where
   pub room : a.rules ≤ length slots
   pub few : a.rules ≤ 64
   pub flags : length a.waiting ≡ 64
-  pub known : All (λ w. w.rule < a.rules) (line a slots)
+  pub known : AllByRecursion (λ w. w.rule < a.rules) (line a slots)
   pub once : (i : ℕ) → i < a.rules → times i (line a slots) ≡ bit (waits a i)
 
 -- the line with one wake-up more at the back, unless its rule waits already

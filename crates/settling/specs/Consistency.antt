@@ -1,7 +1,7 @@
 -- Consistent families, the greatest one inside given lists, and what it leaves to each job.
 -- A rule r has the jobs `scope r` and admits the rows of places that `admits r` passes.
 use Rattle.std.specs.Prelude.{◌≡◌, ℕ, ◌<◌, Bool, true, List, map, length, Option, MatchOption, slice_index}
-use Rattle.std.specs.List.{AllByRecursion as All}
+use Rattle.std.specs.List.{AllByRecursion}
 use Rattle.places.specs.Families.{Family, Inside}
 use Rattle.rules.specs.Narrowing.{Support}
 
@@ -11,7 +11,7 @@ Consistent scope admits f = (k p : ℕ) → k < length scope → f (slice_index 
 
 -- consistent for every rule of a list
 abbrev pub AllConsistent : {R : Type 0} → (R → List ℕ) → (R → List ℕ → Bool) → List R → Family → Type 0
-AllConsistent scope admits rules f = All (λ r. Consistent (scope r) (admits r) f) rules
+AllConsistent scope admits rules f = AllByRecursion (λ r. Consistent (scope r) (admits r) f) rules
 
 -- the greatest consistent family inside f holds place p for job j: some consistent family inside f does
 pub record InGreatest {R : Type 0} (scope : R → List ℕ) (admits : R → List ℕ → Bool) (rules : List R) (f : Family) (j p : ℕ) : Type 0 where
@@ -46,7 +46,7 @@ Lowest scope admits rules n f answer = MatchOption answer (Complete scope admits
 -- a whole placing: each of the first n jobs has one place, from its list, and every rule admits the row of its jobs' places
 pub record WholePlacing {R : Type 0} (scope : R → List ℕ) (admits : R → List ℕ → Bool) (rules : List R) (n : ℕ) (f : Family) (at : ℕ → ℕ) : Type 0 where
   pub drawn : (j : ℕ) → j < n → f j (at j) ≡ true
-  pub admitted : All (λ r. admits r (map at (scope r)) ≡ true) rules
+  pub admitted : AllByRecursion (λ r. admits r (map at (scope r)) ≡ true) rules
 
 -- every whole placing from `before` takes its places from `after` too
 abbrev pub KeepsPlacings : {R : Type 0} → (R → List ℕ) → (R → List ℕ → Bool) → List R → ℕ → Family → Family → Type 0

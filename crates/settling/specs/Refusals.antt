@@ -1,6 +1,6 @@
 -- Which refusal a settling gives: that of the first check that fails.
 use Rattle.std.specs.Prelude.{◌≡◌, ℕ, ◌+◌, ◌*◌, ◌≤◌, Bool, true, ◌||◌, List, length, Option, nat_lt}
-use Rattle.std.specs.List.{AllByRecursion as All}
+use Rattle.std.specs.List.{AllByRecursion}
 use Rattle.refusals.specs.Codes.{Code, then_check, fails_if, first_fault}
 use Rattle.rules.specs.Refusals.{no_board, unlawful}
 
@@ -19,5 +19,5 @@ pub record Admissible {R : Type 0} (n limit numbers wake-ups : ℕ) (lawful : R 
   pub rules_few : length rules ≤ 64
   pub slots : length rules ≤ wake-ups
   pub few : n ≤ 256
-  pub all_lawful : All (λ r. lawful r n ≡ true) rules
+  pub all_lawful : AllByRecursion (λ r. lawful r n ≡ true) rules
   pub memory : 8 * (n + limit) ≤ numbers

@@ -1,6 +1,6 @@
 -- What holds of the greatest consistent family, whatever the rules and lists.
 use Rattle.std.specs.Prelude.{◌≡◌, ℕ, ◌<◌, Bool, true, false, List, [], ◌∷◌, ◌≢◌}
-use Rattle.std.specs.List.{ContainsAt as Has, AllByRecursion as All}
+use Rattle.std.specs.List.{ContainsAt as Has, AllByRecursion}
 use Rattle.theory.specs.Lists.{member}
 use Rattle.places.specs.Families.{Family, Inside, family}
 use Rattle.rules.specs.Narrowing.{Scope}
@@ -42,11 +42,11 @@ CutsRestoreNothing = (rules : List Constraint) (before cut left left_cut : Famil
 
 -- every whole placing lies inside the result
 abbrev pub PlacingsStay : Type 0
-PlacingsStay = (rules : List Constraint) (n : ℕ) (f g : Family) → All (λ c. Scope n c.scope) rules → Greatest rules f g → (at : ℕ → ℕ) → Placing rules n f at → (j : ℕ) → j < n → g j (at j) ≡ true
+PlacingsStay = (rules : List Constraint) (n : ℕ) (f g : Family) → AllByRecursion (λ c. Scope n c.scope) rules → Greatest rules f g → (at : ℕ → ℕ) → Placing rules n f at → (j : ℕ) → j < n → g j (at j) ≡ true
 
 -- so a place that is missing from the result is used by no whole placing
 abbrev pub MissingUnused : Type 0
-MissingUnused = (rules : List Constraint) (n : ℕ) (f g : Family) → All (λ c. Scope n c.scope) rules → Greatest rules f g → (j p : ℕ) → j < n → g j p ≡ false → (at : ℕ → ℕ) → Placing rules n f at → at j ≢ p
+MissingUnused = (rules : List Constraint) (n : ℕ) (f g : Family) → AllByRecursion (λ c. Scope n c.scope) rules → Greatest rules f g → (j p : ℕ) → j < n → g j p ≡ false → (at : ℕ → ℕ) → Placing rules n f at → at j ≢ p
 
 -- three jobs: 0 and 1 have different places, and these add up to that of 2
 abbrev pub three_lists : Family
@@ -59,6 +59,6 @@ three_rules = constraint (0 ∷ 1 ∷ []) no_place_twice ∷ constraint (0 ∷ 1
 -- there is a whole placing, and every one has 1 at job 2
 pub record ConverseFails : Type 0 where
   pub greatest : Greatest three_rules three_lists three_lists
-  pub held : All (λ p. three_lists 2 p ≡ true) (0 ∷ 1 ∷ 2 ∷ [])
+  pub held : AllByRecursion (λ p. three_lists 2 p ≡ true) (0 ∷ 1 ∷ 2 ∷ [])
   pub some : (at : ℕ → ℕ) × Placing three_rules 3 three_lists at
   pub only : (at : ℕ → ℕ) → Placing three_rules 3 three_lists at → at 2 ≡ 1

@@ -1,6 +1,6 @@
 -- Which rules wait after lists have changed, and what a step of settling does.
 use Rattle.std.specs.Prelude.{◌≡◌, ℕ, ◌+◌, ◌<◌, Bool, true, false, ◌||◌, ◌⊎◌, List, [], ◌∷◌, ◌++◌, length, Option, MatchOption, slice_index, slice_index_or}
-use Rattle.std.specs.List.{AllByRecursion as All}
+use Rattle.std.specs.List.{AllByRecursion}
 use Rattle.theory.specs.Counts.{count}
 use Rattle.theory.specs.Lists.{member}
 use Rattle.places.specs.Families.{Family}
@@ -27,13 +27,13 @@ pub record Rightful {R : Type 0} (scope : R → List ℕ) (rules : List R) (w : 
 pub record Waiting {R : Type 0} (scope : R → List ℕ) (rules : List R) (a : Agenda) (slots : List WakeUp) : Type 0 where
   pub agreed : Agreed a slots
   pub number : a.rules ≡ length rules
-  pub rightful : All (Rightful scope rules) (line a slots)
+  pub rightful : AllByRecursion (Rightful scope rules) (line a slots)
 
 -- rightful wake-ups joined the line at the back, of each of which P holds
 pub record Called {R : Type 0} (scope : R → List ℕ) (rules : List R) (P : WakeUp → Type 0) (old new : List WakeUp) : Type 0 where
   pub added : List WakeUp
   pub split : new ≡ old ++ added
-  pub each : All (λ w. P w × Rightful scope rules w) added
+  pub each : AllByRecursion (λ w. P w × Rightful scope rules w) added
 
 -- a wake-up of a rule that did not wait, by job j
 abbrev pub ByJob : Agenda → ℕ → WakeUp → Type 0

@@ -1,6 +1,6 @@
 // Settling with every table checked first.
 ghost use Rattle.std.specs.Prelude.{◌≡◌, true, length, IfOk, MatchResult, OnOk};
-ghost use Rattle.std.specs.List.{AllByRecursion as All};
+ghost use Rattle.std.specs.List.{AllByRecursion};
 ghost use Rattle.places.specs.Families.{family};
 ghost use Rattle.refusals.specs.Codes.{refusal_of};
 ghost use Rattle.settling.specs.Consistency.{Settled, Lowest, KeepsPlacings};

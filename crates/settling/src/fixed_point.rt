@@ -1,6 +1,6 @@
 // Settling a family of lists by rules.
 ghost use Rattle.std.specs.Prelude.{◌≡◌, ◌+◌, ◌*◌, ◌≤◌, true, length};
-ghost use Rattle.std.specs.List.{AllByRecursion as All};
+ghost use Rattle.std.specs.List.{AllByRecursion};
 ghost use Rattle.places.specs.Families.{family};
 ghost use Rattle.settling.specs.Consistency.{Settled, Lowest, KeepsPlacings};
 
@@ -22,7 +22,7 @@ pub fn settle<L: PlaceSet + Copy, R: Rule>(
     requires rules { length rules.now ≤ 64 }
     requires slots { length rules.now ≤ length wake_ups.old }
     requires few { length lists.old ≤ 256 }
-    requires lawful { All (λ r. R.lawful r (length lists.old) ≡ true) rules.now }
+    requires lawful { AllByRecursion (λ r. R.lawful r (length lists.old) ≡ true) rules.now }
     requires memory { 8 * (length lists.old + L.limit) ≤ length numbers.old }
     ensures settled { Settled R.scope R.admits rules.now (family L.has lists.old) (family L.has lists.new) }
     ensures lowest { Lowest R.scope R.admits rules.now (length lists.old) (family L.has lists.old) result }

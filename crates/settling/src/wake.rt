@@ -1,6 +1,6 @@
 // Having rules wait.
 ghost use Rattle.std.specs.Prelude.{◌≡◌, ℕ, ◌<◌, ◌≤◌, true, false, [], length};
-ghost use Rattle.std.specs.List.{AllByRecursion as All};
+ghost use Rattle.std.specs.List.{AllByRecursion};
 ghost use Rattle.places.specs.Families.{family};
 ghost use Rattle.settling.specs.Agenda.{waits, line};
 ghost use Rattle.settling.specs.Waking.{Waiting, Woken, Called, Noted, Changed, ByJob, ByChange, Roused, first_wake_ups};
@@ -15,7 +15,7 @@ pub fn wake_all<R: Rule>(agenda: &mut Agenda, slots: &mut [WakeUp], rules: &[R])
     requires waiting { Waiting R.scope rules.now agenda.old slots.old }
     requires empty { line agenda.old slots.old ≡ [] }
     requires none { (i : ℕ) → waits agenda.old i ≡ false }
-    requires some { All (λ r. 0 < length (R.scope r)) rules.now }
+    requires some { AllByRecursion (λ r. 0 < length (R.scope r)) rules.now }
     ensures waiting { Waiting R.scope rules.now agenda.new slots.new }
     ensures all { (i : ℕ) → i < length rules.now → waits agenda.new i ≡ true }
     ensures line { line agenda.new slots.new ≡ first_wake_ups R.scope 0 rules.now }

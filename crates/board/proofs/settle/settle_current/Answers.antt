@@ -1,5 +1,5 @@
 use Rattle.std.proofs.Common.{◌≡◌, ℕ, true, sym, subst, arith}
-use Rattle.std.specs.List.{AllByRecursion as All}
+use Rattle.std.specs.List.{AllByRecursion}
 use Rattle.board.proofs.Settlings.{reached}
 use Rattle.board.proofs.settle.settle_current.Goals as goal
 
@@ -8,7 +8,7 @@ settle-requires g c = record {
   rules = c.requires.rules;
   slots = c.requires.slots;
   few = omega arith;
-  lawful = subst (λ (n : ℕ). All (λ r. g.R.Rule.lawful r n ≡ true) c.args.rules.now) (sym c.write_current.auto.lists) c.requires.lawful;
+  lawful = subst (λ (n : ℕ). AllByRecursion (λ r. g.R.Rule.lawful r n ≡ true) c.args.rules.now) (sym c.write_current.auto.lists) c.requires.lawful;
   memory = omega arith;
 }
 
