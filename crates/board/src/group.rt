@@ -77,7 +77,7 @@ impl Numbers {
 
     // Writes the deficient group of a rule, in the current lists, to the front of `table`. Of the working numbers, `memory` in all, at
     // most n are lent apart.
-    fn group<L: PlaceSet + Copy, R: Rule>(
+    fn group_with<L: PlaceSet + Copy, R: Rule>(
         &self,
         opened: &[L],
         rules: &[R],
@@ -105,6 +105,26 @@ impl Numbers {
         let jobs = self.check_group(opened, rules, log, &tables, rule)?;
         Ok(self.write_group(&jobs, opened, log, table, working, numbers))
     }
+
+    // Writes the deficient group of a rule, in the current lists, to the front of `table`.
+    fn group<L: PlaceSet + Copy, R: Rule>(
+        &self,
+        opened: &[L],
+        rules: &[R],
+        log: &[Cut],
+        table: &mut [u16],
+        working: &mut [L],
+        numbers: &mut [u16],
+        wake_ups: &mut [WakeUp],
+        rule: usize,
+    ) -> Result<Deficiency, Refusal>
+        ensures { GroupSays L.limit (current_lists L.has (held_by self.now) opened.now log.now) (named_at R.names (take self.now.rules rules.now) rule) (group_refusal L.has L.limit R.lawful R.names (held_by self.now) opened.now rules.now log.now (lengths (length opened.now) (length rules.now) (length log.now) 0 (length table.old) (length working.old) (length numbers.old) (length wake_ups.old)) rule) table.old table.new result }
+    {
+        let memory = numbers.len();
+        self.group_with(
+            opened, rules, log, table, working, numbers, wake_ups, memory, rule,
+        )
+    }
 }
 
 impl<S: Stage + Drop> Board<S> {
@@ -123,10 +143,7 @@ impl<S: Stage + Drop> Board<S> {
         requires { S.shut self.now.stage }
         ensures { GroupSays L.limit (current_lists L.has (held_by self.now.numbers) opened.now log.now) (named_at R.names (take self.now.numbers.rules rules.now) rule) (group_refusal L.has L.limit R.lawful R.names (held_by self.now.numbers) opened.now rules.now log.now (lengths (length opened.now) (length rules.now) (length log.now) 0 (length table.old) (length working.old) (length numbers.old) (length wake_ups.old)) rule) table.old table.new result }
     {
-        let memory = numbers.len();
-        self.numbers.group(
-            opened, rules, log, table, working, numbers, wake_ups, memory, rule,
-        )
+        self.numbers.group(opened, rules, log, table, working, numbers, wake_ups, rule)
     }
 
     // The same where the table is the front of the working numbers, and `numbers` the rest of them.
@@ -145,7 +162,7 @@ impl<S: Stage + Drop> Board<S> {
         ensures { GroupSays L.limit (current_lists L.has (held_by self.now.numbers) opened.now log.now) (named_at R.names (take self.now.numbers.rules rules.now) rule) (group_refusal L.has L.limit R.lawful R.names (held_by self.now.numbers) opened.now rules.now log.now (lengths (length opened.now) (length rules.now) (length log.now) 0 (length table.old) (length working.old) (length numbers.old + self.now.numbers.n) (length wake_ups.old)) rule) table.old table.new result }
     {
         let memory = numbers.len() + self.numbers.n as usize;
-        self.numbers.group(
+        self.numbers.group_with(
             opened, rules, log, table, working, numbers, wake_ups, memory, rule,
         )
     }

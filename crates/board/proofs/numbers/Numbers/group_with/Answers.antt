@@ -1,6 +1,6 @@
 use Rattle.std.proofs.Common.{sym, arith}
 use Rattle.board.proofs.Groupings.{named_scope}
-use Rattle.board.proofs.numbers.Numbers.group.Goals as goal
+use Rattle.board.proofs.numbers.Numbers.group_with.Goals as goal
 
 pub write_group-requires : goal.write_group-requires
 write_group-requires g c =
