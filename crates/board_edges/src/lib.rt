@@ -1,6 +1,6 @@
+// Examples at the edges of every call of a board.
 #![tactic(auto)]
 
-// Examples at the edges of every call of a board.
 #[cfg(test)]
 mod asking_tests;
 #[cfg(test)]

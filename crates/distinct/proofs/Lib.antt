@@ -3,4 +3,5 @@ pub mod Countings
 pub mod Divisions
 pub mod Narrowings
 pub mod Siftings
+pub mod Spreads
 pub mod Tellings

@@ -1,6 +1,6 @@
+// Examples at the edges of the list kinds, of narrowing by one rule, and of settling.
 #![tactic(auto)]
 
-// Examples at the edges of the list kinds, of narrowing by one rule, and of settling.
 #[cfg(test)]
 mod distinct_tests;
 #[cfg(test)]

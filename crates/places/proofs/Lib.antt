@@ -1,4 +1,5 @@
 pub mod Digits
 pub mod Families
+pub mod Fronts
 pub mod Picks
 pub mod Rows

@@ -1,7 +1,7 @@
 use Rattle.std.proofs.Common.{◌≤◌, length, ◌∙◌, arith}
 use Rattle.places.specs.Families.{family}
 use Rattle.rules.specs.Progressions.{jobs_of}
-use Rattle.distinct.specs.Spreads.{count_is, count_few, job_below, last_below}
+use Rattle.distinct.proofs.Spreads.{count_is, count_few, job_below, last_below}
 use Rattle.distinct.proofs.Tellings.{told}
 use Rattle.distinct.proofs.group.deficient_group.Goals as goal
 

@@ -3,7 +3,7 @@ use Rattle.places.specs.Families.{family}
 use Rattle.places.proofs.Families.{family_all}
 use Rattle.rules.specs.Progressions.{jobs_of}
 use Rattle.distinct.proofs.Narrowings.{narrowed_full}
-use Rattle.distinct.specs.Spreads.{count_is, job_below, last_below}
+use Rattle.distinct.proofs.Spreads.{count_is, job_below, last_below}
 use Rattle.distinct.proofs.narrow.narrow_full.Goals as goal
 
 pub invariant_of-components : goal.invariant_of-components

@@ -7,7 +7,7 @@ use Rattle.places.proofs.Families.{family_all}
 use Rattle.rules.specs.Progressions.{jobs_of}
 use Rattle.distinct.proofs.Countings.{none_missing}
 use Rattle.distinct.proofs.Narrowings.{narrowed_none}
-use Rattle.distinct.specs.Spreads.{count_is, job_below, last_below}
+use Rattle.distinct.proofs.Spreads.{count_is, job_below, last_below}
 use Rattle.distinct.proofs.narrow.narrow_jobs.Goals as goal
 
 pub invariant_of-match_jobs : goal.invariant_of-match_jobs

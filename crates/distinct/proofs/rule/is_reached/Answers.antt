@@ -1,5 +1,5 @@
 use Rattle.std.proofs.Common.{◌∙◌, inl, inr, arith}
-use Rattle.distinct.specs.Spreads.{none_stands, still_stands, step_stands}
+use Rattle.distinct.proofs.Spreads.{none_stands, still_stands, step_stands}
 use Rattle.distinct.proofs.rule.is_reached.Goals as goal
 
 pub returns-then-job-first : goal.returns-then-job-first

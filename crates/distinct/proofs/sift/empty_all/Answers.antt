@@ -2,7 +2,7 @@ use Rattle.std.proofs.Common.{false, length, get_or, ◌∙◌, arith}
 use Rattle.places.specs.Families.{family}
 use Rattle.rules.specs.Progressions.{jobs_of}
 use Rattle.distinct.proofs.Siftings.{sifted_more, fixed_none}
-use Rattle.distinct.specs.Spreads.{job_is, jobs_apart}
+use Rattle.distinct.proofs.Spreads.{job_is, jobs_apart}
 use Rattle.distinct.proofs.sift.empty_all.Goals as goal
 
 pub loop-i-preserved : goal.loop-i-preserved

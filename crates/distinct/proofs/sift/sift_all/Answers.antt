@@ -3,7 +3,7 @@ use Rattle.places.specs.Families.{family}
 use Rattle.rules.specs.Progressions.{jobs_of}
 use Rattle.distinct.specs.Scopes.{Sifted, stays}
 use Rattle.distinct.proofs.Siftings.{sifted_more}
-use Rattle.distinct.specs.Spreads.{job_is, jobs_apart}
+use Rattle.distinct.proofs.Spreads.{job_is, jobs_apart}
 use Rattle.distinct.proofs.sift.sift_all.Goals as goal
 
 pub loop-i-preserved : goal.loop-i-preserved

@@ -3,7 +3,8 @@ use Rattle.std.proofs.lemmas.List.{at_drop_more, at_drop_all}
 use Rattle.std.proofs.lemmas.Bool.{cond-true, cond-false, le-leb, lt-leb}
 use Rattle.places.specs.Sets.{First}
 use Rattle.places.specs.Needles.{front_part, needles_have, passes}
-use Rattle.places.specs.Fronts.{next_of, next_first, front_rises}
+use Rattle.places.specs.Fronts.{front_rises}
+use Rattle.places.proofs.Fronts.{next_of, next_first}
 use Rattle.places.proofs.rising.first_from.Goals as goal
 
 -- the answer that the front part gives is the first of the set

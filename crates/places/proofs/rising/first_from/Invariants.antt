@@ -1,6 +1,6 @@
 use Rattle.std.proofs.Common.{◌≡◌, drop}
 use Rattle.places.specs.Needles.{front_part}
-use Rattle.places.specs.Fronts.{next_of}
+use Rattle.places.proofs.Fronts.{next_of}
 use Rattle.places.proofs.rising.first_from.Given as goal
 
 abbrev pub invariant-loop-x : goal.invariant-loop-x

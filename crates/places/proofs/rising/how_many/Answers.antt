@@ -1,5 +1,5 @@
 use Rattle.std.proofs.Common.{sym}
-use Rattle.places.specs.Fronts.{count_member}
+use Rattle.places.proofs.Fronts.{count_member}
 use Rattle.places.proofs.rising.how_many.Goals as goal
 
 pub returns : goal.returns

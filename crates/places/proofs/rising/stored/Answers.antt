@@ -2,7 +2,7 @@ use Rattle.std.proofs.Common.{get_or, take, set, sym, refl, ap, ◌∙◌, arith
 use Rattle.std.proofs.lemmas.List.{take_more, length-take-le}
 use Rattle.theory.specs.Lists.{member}
 use Rattle.places.specs.Needles.{front_part}
-use Rattle.places.specs.Fronts.{padded, padded_push, front_padded}
+use Rattle.places.proofs.Fronts.{padded, padded_push, front_padded}
 use Rattle.places.proofs.rising.stored.Goals as goal
 
 pub loop-i-init : goal.loop-i-init

@@ -1,5 +1,5 @@
 use Rattle.std.proofs.Common.{◌≡◌, take}
-use Rattle.places.specs.Fronts.{padded}
+use Rattle.places.proofs.Fronts.{padded}
 use Rattle.places.proofs.rising.stored.Given as goal
 
 abbrev pub invariant-loop-i : goal.invariant-loop-i

@@ -1,7 +1,8 @@
 use Rattle.std.proofs.Common.{◌≡◌, true, ◌&&◌, eqb, sym, ap, ◌∙◌}
 use Rattle.std.proofs.lemmas.Bool.{lt-ltb}
 use Rattle.theory.specs.Lists.{member}
-use Rattle.places.specs.Fronts.{alone, member_within}
+use Rattle.places.specs.Fronts.{member_within}
+use Rattle.places.proofs.Fronts.{alone}
 use Rattle.places.proofs.Picks.{only_held, only_missed}
 use Rattle.places.proofs.rising.stored_only.Goals as goal
 

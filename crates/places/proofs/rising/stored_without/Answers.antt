@@ -1,7 +1,7 @@
 use Rattle.std.proofs.Common.{◌≡◌, ℕ, not, eqb, take, filter, refl, ap, ◌∙◌, arith, take_all}
 use Rattle.theory.specs.Lists.{member}
 use Rattle.places.specs.Needles.{front_part}
-use Rattle.places.specs.Fronts.{padded, front_padded, kept_rises, member_kept, stored_takes, stored_passes}
+use Rattle.places.proofs.Fronts.{padded, front_padded, kept_rises, member_kept, stored_takes, stored_passes}
 use Rattle.places.proofs.rising.stored_without.Goals as goal
 use Rattle.places.proofs.rising.stored_without.Goals.{then-x-place, else-x-place}
 

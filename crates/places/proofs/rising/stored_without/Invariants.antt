@@ -1,4 +1,4 @@
-use Rattle.places.specs.Fronts.{Stored}
+use Rattle.places.proofs.Fronts.{Stored}
 use Rattle.places.proofs.rising.stored_without.Given as goal
 
 abbrev pub invariant-loop-x : goal.invariant-loop-x

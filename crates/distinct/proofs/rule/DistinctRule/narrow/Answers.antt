@@ -3,7 +3,8 @@ use Rattle.places.specs.Families.{family}
 use Rattle.rules.specs.declared.progression.Progression.{Progression}
 use Rattle.rules.specs.Narrowing.{Narrowed, Scope}
 use Rattle.rules.specs.Progressions.{spread, jobs_of, no_place_twice}
-use Rattle.distinct.specs.Spreads.{lawful_scope, spread_length, scope_few}
+use Rattle.distinct.specs.Spreads.{lawful_scope, spread_length}
+use Rattle.distinct.proofs.Spreads.{scope_few}
 use Rattle.distinct.proofs.rule.DistinctRule.narrow.Goals as goal
 
 pub narrow_jobs-requires : goal.narrow_jobs-requires
