@@ -1,7 +1,8 @@
 -- The book: which refusal each call of a board gives, by the numbers that the board holds and the tables that the call is lent.
 -- A list kind is given by `has` and its limit, a rule kind by `lawful`.
-use Rattle.std.specs.Prelude.{◌≡◌, ℕ, zero, suc, ◌+◌, ◌*◌, ◌≤◌, Bool, true, not, ◌||◌, List, [], ◌∷◌, ◌++◌, length, take, is_some, None, Option, ◌==◌, nat_le, nat_lt}
-use Rattle.std.specs.List.{AllByRecursion}
+use Rattle.std.specs.Prelude.{◌≡◌, ℕ, ◌+◌, ◌*◌, ◌≤◌, Bool, true, not, ◌||◌, List, [], ◌∷◌, ◌++◌, length, take, is_some, Option, ◌==◌, nat_le, nat_lt}
+use Rattle.std.specs.List.{AllByRecursion, slice_get}
+use Rattle.std.specs.Option.{option_and_then}
 use Rattle.refusals.specs.Codes.{Code, then_check, fails_if, first_fault}
 use Rattle.rules.specs.Refusals.{no_board, unlawful}
 use Rattle.rules.specs.declared.progression.Progression.{Progression}
@@ -41,11 +42,7 @@ size_refusal limit n w lists =
 
 -- opening a board of n jobs and bed width w
 abbrev pub open_refusal : {L : Type 0} → (L → ℕ → Bool) → ℕ → ℕ → ℕ → List L → Option Code
-open_refusal has limit n w opened =
-    then_check (fails_if (no_board n) 8)
-    (then_check (fails_if (w == 0 || nat_lt limit w) 9)
-    (then_check (fails_if (nat_lt (length opened) n) 10)
-    (wide_list has limit w (take n opened))))
+open_refusal has limit n w opened = then_check (size_refusal limit n w (length opened)) (wide_list has limit w (take n opened))
 
 -- adding a rule, which is checked as the next one after those held
 abbrev pub add_refusal : {R : Type 0} → (R → ℕ → Bool) → Held → List R → R → Option Code
@@ -106,9 +103,7 @@ trial_refusal has limit lawful b opened rules log l job place =
 
 -- the progression that a rule names, if there is such a rule
 abbrev pub named_at : {R : Type 0} → (R → Option Progression) → List R → ℕ → Option Progression
-named_at names [] i = None
-named_at names (r ∷ rs) zero = names r
-named_at names (r ∷ rs) (suc i) = named_at names rs i
+named_at names rules i = option_and_then names (slice_get rules i)
 
 -- a group question about a rule
 abbrev pub group_refusal : {L R : Type 0} → (L → ℕ → Bool) → ℕ → (R → ℕ → Bool) → (R → Option Progression) → Held → List L → List R → List Cut → Lengths → ℕ → Option Code

@@ -1,3 +1,4 @@
 pub mod Book
 pub mod Outcomes
 pub mod Moments
+pub mod Lent

@@ -11,13 +11,6 @@ abbrev pub refusal_back : {T B : Type 0} → Result T (Rejected B) → Option Co
 refusal_back (Ok _) = None
 refusal_back (Err e) = Some (says e.refusal)
 
--- a board that was opened for n jobs and bed width w
-pub record Opened (n w : ℕ) (b : Numbers) : Type 0 where
-  pub jobs : b.n ≡ n
-  pub width : b.w ≡ w
-  pub no_rules : b.rules ≡ 0
-  pub no_cuts : b.cuts ≡ 0
-
 -- a board of n jobs, bed width w, so many rules and so many cuts
 abbrev pub held_as : ℕ → ℕ → ℕ → ℕ → Held
 held_as n w rules cuts = record { jobs = n; width = w; rules = rules; cuts = cuts }
@@ -28,12 +21,13 @@ pub record Holds (n w rules cuts : ℕ) (b : Numbers) : Type 0 where
   pub held : b.rules ≡ rules
   pub counted : b.cuts ≡ cuts
 
+-- a board that was opened for n jobs and bed width w
+abbrev pub Opened : ℕ → ℕ → Numbers → Type 0
+Opened n w b = Holds n w 0 0 b
+
 -- the same board but for its number of rules or cuts
-pub record Same (a : Numbers) (rules cuts : ℕ) (b : Numbers) : Type 0 where
-  pub jobs : b.n ≡ a.n
-  pub width : b.w ≡ a.w
-  pub held : b.rules ≡ rules
-  pub counted : b.cuts ≡ cuts
+abbrev pub Same : Numbers → ℕ → ℕ → Numbers → Type 0
+Same a rules cuts b = Holds a.n a.w rules cuts b
 
 -- the lengths of tables
 abbrev pub lengths : ℕ → ℕ → ℕ → ℕ → ℕ → ℕ → ℕ → ℕ → Lengths

@@ -4,6 +4,7 @@ ghost use Rattle.std.specs.List.{AllByRecursion};
 ghost use Rattle.refusals.specs.Codes.{refusal_of};
 ghost use Rattle.board.specs.Book.{held_by, held_refusal, short_tables};
 
+use crate::course::Course;
 use crate::lengths::Lengths;
 use crate::numbers::Numbers;
 use cuts::{Cut, check_cuts, check_lists};
@@ -29,20 +30,16 @@ impl Numbers {
     // The first lists, rules and cuts of the tables are those of this board.
     pub(crate) fn check_held<L: PlaceSet, R: Rule>(
         &self,
-        opened: &[L],
-        rules: &[R],
+        course: Course<L, R>,
         log: &[Cut],
     ) -> Result<(), Refusal>
-        requires { (self.now.n ≤ length opened.now) × (self.now.rules ≤ length rules.now) × (self.now.cuts ≤ length log.now) }
-        ensures refusal { refusal_of result ≡ held_refusal L.has L.limit R.lawful (held_by self.now) opened.now rules.now log.now }
-        ensures lawful { OnOk result (AllByRecursion (λ x. R.lawful x self.now.n ≡ true) (take self.now.rules rules.now)) }
+        requires { (self.now.n ≤ length course.opened.now) × (self.now.rules ≤ length course.rules.now) × (self.now.cuts ≤ length log.now) }
+        ensures refusal { refusal_of result ≡ held_refusal L.has L.LIMIT R.lawful (held_by self.now) course.entry.opened.now course.entry.rules.now log.now }
+        ensures lawful { OnOk result (AllByRecursion (λ x. R.lawful x self.now.n ≡ true) (take self.now.rules course.entry.rules.now)) }
     {
         let n = self.n as usize;
-        let held = self.rules;
-        let counted = self.cuts;
-        check_lists(&opened[0..n], self.w)?;
-        check_rules(&rules[0..held], n)?;
-        check_cuts(&log[0..counted], self.n, self.w)?;
-        Ok(())
+        check_lists(&course.opened[..n], self.w)?;
+        check_rules(&course.rules[..self.rules], n)?;
+        check_cuts(&log[..self.cuts], self.n, self.w)
     }
 }

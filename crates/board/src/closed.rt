@@ -5,25 +5,29 @@ ghost use Rattle.board.specs.declared.stage.Closed.TheVariants.{AtWork as IsAtWo
 use crate::board::Board;
 use crate::stage::{AtWork, Closed, Settled};
 
-impl Board<AtWork> {
-    pub fn closed(self) -> Board<Closed>
-        ensures numbers { result.numbers ≡ self.numbers }
-        ensures stage { result.stage ≡ IsAtWork }
-    {
-        Board {
-            stage: Closed::AtWork,
-            numbers: self.numbers,
-        }
+impl From<AtWork> for Closed {
+    ghost from_gives = { λ _ stage. stage ≡ IsAtWork };
+
+    fn from(_: AtWork) -> Closed {
+        Closed::AtWork
     }
 }
 
-impl Board<Settled> {
+impl From<Settled> for Closed {
+    ghost from_gives = { λ _ stage. stage ≡ IsSettled };
+
+    fn from(_: Settled) -> Closed {
+        Closed::Settled
+    }
+}
+
+impl<S: Into<Closed>> Board<S> {
     pub fn closed(self) -> Board<Closed>
         ensures numbers { result.numbers ≡ self.numbers }
-        ensures stage { result.stage ≡ IsSettled }
+        ensures stage { S.converts self.stage result.stage }
     {
         Board {
-            stage: Closed::Settled,
+            stage: self.stage.into(),
             numbers: self.numbers,
         }
     }

@@ -5,22 +5,21 @@ ghost use Rattle.board.specs.Book.{size_refusal, open_refusal, add_refusal, clos
 ghost use Rattle.board.specs.Outcomes.{refusal_back, Opened, Same};
 
 use crate::board::{Board, Rejected};
+use crate::course::Course;
 use crate::numbers::Numbers;
 use crate::stage::{AtWork, Filling, Stage};
 use cuts::check_lists;
 use places::PlaceSet;
 use refusals::Refusal;
-use rules::{Rule, check_offered, check_rules};
+use rules::{Rule, check_job_count, check_offered, check_rules};
 
 // A board can have n jobs and bed width w, and a table of so many lists has room for its jobs.
 pub fn check_size<L: PlaceSet>(n: u16, w: u16, lists: usize) -> Result<(), Refusal>
-    ensures refusal { refusal_of result ≡ size_refusal L.limit n w lists }
+    ensures refusal { refusal_of result ≡ size_refusal L.LIMIT n w lists }
     ensures few { OnOk result ((n ≤ 256) × (n ≤ lists)) }
 {
-    if n == 0 || n > 256 {
-        return Err(Refusal::JobCount);
-    }
-    if w == 0 || w as usize > L::width_limit() {
+    check_job_count(usize::from(n))?;
+    if w == 0 || w as usize > L::LIMIT {
         return Err(Refusal::BedWidth);
     }
     if lists < n as usize {
@@ -29,22 +28,14 @@ pub fn check_size<L: PlaceSet>(n: u16, w: u16, lists: usize) -> Result<(), Refus
     Ok(())
 }
 
-fn check_open<L: PlaceSet>(n: u16, w: u16, opened: &[L]) -> Result<(), Refusal>
-    ensures refusal { refusal_of result ≡ open_refusal L.has L.limit n w opened.now }
-    ensures few { OnOk result (n ≤ 256) }
-{
-    check_size::<L>(n, w, opened.len())?;
-    check_lists(&opened[0..n as usize], w)?;
-    Ok(())
-}
-
 impl Board<Filling> {
     // A board of n jobs and bed width w, without rules yet.
     pub fn open<L: PlaceSet>(n: u16, w: u16, opened: &[L]) -> Result<Board<Filling>, Refusal>
-        ensures refusal { refusal_of result ≡ open_refusal L.has L.limit n w opened.now }
+        ensures refusal { refusal_of result ≡ open_refusal L.has L.LIMIT n w opened.now }
         ensures board { IfOk result (λ b. Opened n w b.numbers) }
     {
-        check_open(n, w, opened)?;
+        check_size::<L>(n, w, opened.len())?;
+        check_lists(&opened[..n as usize], w)?;
         Ok(Board {
             stage: Filling,
             numbers: Numbers {
@@ -66,23 +57,23 @@ impl Numbers {
         if rules.len() < held {
             return Err(Refusal::TableTooShort);
         }
-        check_offered(&rules[0..held], rule, self.n as usize)?;
+        check_offered(&rules[..held], rule, self.n as usize)?;
         if rules.len() <= held || held >= 64 {
             return Err(Refusal::Full);
         }
         Ok(())
     }
 
-    fn check_close<L: PlaceSet, R: Rule>(&self, opened: &[L], rules: &[R]) -> Result<(), Refusal>
-        ensures { refusal_of result ≡ close_refusal L.has L.limit R.lawful (held_by self.now) opened.now rules.now }
+    fn check_close<L: PlaceSet, R: Rule>(&self, course: Course<L, R>) -> Result<(), Refusal>
+        ensures { refusal_of result ≡ close_refusal L.has L.LIMIT R.lawful (held_by self.now) course.entry.opened.now course.entry.rules.now }
     {
         let n = self.n as usize;
         let held = self.rules;
-        if opened.len() < n || rules.len() < held {
+        if course.opened.len() < n || course.rules.len() < held {
             return Err(Refusal::TableTooShort);
         }
-        check_lists(&opened[0..n], self.w)?;
-        check_rules(&rules[0..held], n)
+        check_lists(&course.opened[..n], self.w)?;
+        check_rules(&course.rules[..held], n)
     }
 }
 
@@ -97,39 +88,23 @@ impl<S: Stage + Drop> Board<S> {
         self.numbers.check_add(rules, &rule)?;
         let held = self.numbers.rules;
         rules[held] = rule;
-        self.numbers = Numbers {
-            n: self.numbers.n,
-            w: self.numbers.w,
-            rules: held + 1,
-            cuts: self.numbers.cuts,
-        };
+        self.numbers.rules = held + 1;
         Ok(())
     }
 
     // No more rules: the board is then at work, without cuts.
     pub fn close<L: PlaceSet, R: Rule>(
         self,
-        opened: &[L],
-        rules: &[R],
+        course: Course<L, R>,
     ) -> Result<Board<AtWork>, Rejected<Board<S>>>
         requires { S.fills self.stage }
-        ensures refusal { refusal_back result ≡ close_refusal L.has L.limit R.lawful (held_by self.numbers) opened.now rules.now }
+        ensures refusal { refusal_back result ≡ close_refusal L.has L.LIMIT R.lawful (held_by self.numbers) course.entry.opened.now course.entry.rules.now }
         ensures board { MatchResult result (λ b. Same self.numbers self.numbers.rules 0 b.numbers) (λ e. e.board ≡ self) }
     {
-        match self.numbers.check_close(opened, rules) {
-            Ok(()) => Ok(Board {
-                stage: AtWork,
-                numbers: Numbers {
-                    n: self.numbers.n,
-                    w: self.numbers.w,
-                    rules: self.numbers.rules,
-                    cuts: 0,
-                },
-            }),
-            Err(refusal) => Err(Rejected {
-                refusal,
-                board: self,
-            }),
+        // No `map_err`: its closure would hold the board.
+        match self.numbers.check_close(course) {
+            Ok(()) => Ok(self.at_work(0)),
+            Err(refusal) => Err(self.rejected(refusal)),
         }
     }
 }

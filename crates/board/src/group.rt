@@ -5,10 +5,11 @@ ghost use Rattle.distinct.specs.Groups.{GroupTold};
 ghost use Rattle.rules.specs.Narrowing.{Scope};
 ghost use Rattle.rules.specs.Progressions.{jobs_of};
 ghost use Rattle.board.specs.Book.{held_by, group_refusal, named_at, Ready};
+ghost use Rattle.board.specs.Lent.{lent, lent_with, KeepsLengths};
 ghost use Rattle.board.specs.Moments.{current_lists, GroupSays};
-ghost use Rattle.board.specs.Outcomes.{lengths};
 
 use crate::board::Board;
+use crate::course::{Course, Memory};
 use crate::lengths::Lengths;
 use crate::numbers::Numbers;
 use crate::stage::Stage;
@@ -17,113 +18,59 @@ use distinct::{Deficiency, deficient_group};
 use places::PlaceSet;
 use refusals::Refusal;
 use rules::{Progression, Rule};
-use settling::WakeUp;
 
 // The jobs of the distinct rule that a rule names, if there is such a rule.
 fn named_by<R: Rule>(rules: &[R], rule: usize) -> Option<Progression>
     ensures { result ≡ named_at R.names rules.now rule }
 {
-    if rule >= rules.len() {
-        return None;
-    }
-    rules[rule].names_distinct()
+    rules.get(rule).and_then(|named| named.names_distinct())
 }
 
 impl Numbers {
+    // What a group question checks where the working numbers count as so many in total; gives the jobs that the rule names.
     fn check_group<L: PlaceSet, R: Rule>(
         &self,
-        opened: &[L],
-        rules: &[R],
+        course: Course<L, R>,
         log: &[Cut],
-        tables: &Lengths,
+        group: usize,
+        memory: &Memory<L>,
+        total: usize,
         rule: usize,
     ) -> Result<Progression, Refusal>
-        requires { (tables.now.opened ≡ length opened.now) × (tables.now.rules ≡ length rules.now) × (tables.now.log ≡ length log.now) }
-        ensures refusal { refusal_of result ≡ group_refusal L.has L.limit R.lawful R.names (held_by self.now) opened.now rules.now log.now tables.now rule }
-        ensures ready { IfOk result (λ d. Ready L.limit R.lawful (held_by self.now) rules.now tables.now × (self.now.n ≤ tables.now.group) × (named_at R.names (take self.now.rules rules.now) rule ≡ Some d)) }
-    {
-        if self.are_short(L::width_limit(), tables) || tables.group < self.n as usize {
-            return Err(Refusal::TableTooShort);
-        }
-        self.check_held(opened, rules, log)?;
-        let held = self.rules;
-        match named_by(&rules[0..held], rule) {
-            Some(jobs) => Ok(jobs),
-            None => Err(Refusal::NoDistinctRule),
-        }
-    }
-
-    // Writes the group of these jobs, in the current lists, to the front of `table`.
-    fn write_group<L: PlaceSet + Copy>(
-        &self,
-        jobs: &Progression,
-        opened: &[L],
-        log: &[Cut],
-        table: &mut [u16],
-        working: &mut [L],
-        numbers: &mut [u16],
-    ) -> Deficiency
-        requires scope { Scope self.now.n (jobs_of jobs.now) }
-        requires tables { (self.now.n ≤ length opened.now) × (self.now.cuts ≤ length log.now) × (self.now.n ≤ length working.old) × (self.now.n ≤ length table.old) }
-        requires memory { 7 * (self.now.n + L.limit) ≤ length numbers.old }
-        ensures { GroupTold L.limit (current_lists L.has (held_by self.now) opened.now log.now) (jobs_of jobs.now) table.old table.new result.count result.deficiency }
-    {
-        let n = self.n as usize;
-        let counted = self.cuts;
-        let lists = &mut working[0..n];
-        write_current(&opened[0..n], &log[0..counted], lists);
-        deficient_group(jobs, lists, numbers, table)
-    }
-
-    // Writes the deficient group of a rule, in the current lists, to the front of `table`. Of the working numbers, `memory` in all, at
-    // most n are lent apart.
-    fn group_with<L: PlaceSet + Copy, R: Rule>(
-        &self,
-        opened: &[L],
-        rules: &[R],
-        log: &[Cut],
-        table: &mut [u16],
-        working: &mut [L],
-        numbers: &mut [u16],
-        wake_ups: &[WakeUp],
-        memory: usize,
-        rule: usize,
-    ) -> Result<Deficiency, Refusal>
-        requires { memory ≤ length numbers.old + self.now.n }
-        ensures { GroupSays L.limit (current_lists L.has (held_by self.now) opened.now log.now) (named_at R.names (take self.now.rules rules.now) rule) (group_refusal L.has L.limit R.lawful R.names (held_by self.now) opened.now rules.now log.now (lengths (length opened.now) (length rules.now) (length log.now) 0 (length table.old) (length working.old) memory (length wake_ups.now)) rule) table.old table.new result }
+        ensures refusal { refusal_of result ≡ group_refusal L.has L.LIMIT R.lawful R.names (held_by self.now) course.entry.opened.now course.entry.rules.now log.now (lent_with total course.entry log.now group memory.now) rule }
+        ensures ready { IfOk result (λ d. Ready L.LIMIT R.lawful (held_by self.now) course.entry.rules.now (lent_with total course.entry log.now group memory.now) × (self.now.n ≤ group) × (named_at R.names (take self.now.rules course.entry.rules.now) rule ≡ Some d)) }
     {
         let tables = Lengths {
-            opened: opened.len(),
-            rules: rules.len(),
-            log: log.len(),
-            standing: 0,
-            group: table.len(),
-            working: working.len(),
-            numbers: memory,
-            wakes: wake_ups.len(),
+            numbers: total,
+            ..course.lengths(log, 0, group, memory)
         };
-        let jobs = self.check_group(opened, rules, log, &tables, rule)?;
-        Ok(self.write_group(&jobs, opened, log, table, working, numbers))
+        if self.are_short(L::LIMIT, &tables) || group < self.n as usize {
+            return Err(Refusal::TableTooShort);
+        }
+        self.check_held(course, log)?;
+        named_by(&course.rules[..self.rules], rule).ok_or(Refusal::NoDistinctRule)
     }
 
-    // Writes the deficient group of a rule, in the current lists, to the front of `table`.
+    // Writes the deficient group of a rule, in the current lists, to the front of `table`. The working numbers count as so many in
+    // total: at most n of them are lent apart.
     fn group<L: PlaceSet + Copy, R: Rule>(
         &self,
-        opened: &[L],
-        rules: &[R],
+        course: Course<L, R>,
         log: &[Cut],
         table: &mut [u16],
-        working: &mut [L],
-        numbers: &mut [u16],
-        wake_ups: &mut [WakeUp],
+        memory: &mut Memory<L>,
+        total: usize,
         rule: usize,
     ) -> Result<Deficiency, Refusal>
-        ensures { GroupSays L.limit (current_lists L.has (held_by self.now) opened.now log.now) (named_at R.names (take self.now.rules rules.now) rule) (group_refusal L.has L.limit R.lawful R.names (held_by self.now) opened.now rules.now log.now (lengths (length opened.now) (length rules.now) (length log.now) 0 (length table.old) (length working.old) (length numbers.old) (length wake_ups.old)) rule) table.old table.new result }
+        requires { total ≤ length memory.old.numbers.now + self.now.n }
+        ensures group { GroupSays L.LIMIT (current_lists L.has (held_by self.now) course.entry.opened.now log.now) (named_at R.names (take self.now.rules course.entry.rules.now) rule) (group_refusal L.has L.LIMIT R.lawful R.names (held_by self.now) course.entry.opened.now course.entry.rules.now log.now (lent_with total course.entry log.now (length table.old) memory.old) rule) table.old table.new result }
+        ensures memory { KeepsLengths memory.old memory.new }
     {
-        let memory = numbers.len();
-        self.group_with(
-            opened, rules, log, table, working, numbers, wake_ups, memory, rule,
-        )
+        let jobs = self.check_group(course, log, table.len(), memory, total, rule)?;
+        let n = self.n as usize;
+        let lists = &mut memory.working[..n];
+        write_current(&course.opened[..n], &log[..self.cuts], lists);
+        Ok(deficient_group(&jobs, lists, memory.numbers, table))
     }
 }
 
@@ -131,39 +78,35 @@ impl<S: Stage + Drop> Board<S> {
     // Writes the jobs of a distinct rule's deficient group, rising, to the front of `table`; gives their number and the deficiency.
     pub fn group<L: PlaceSet + Copy, R: Rule>(
         &self,
-        opened: &[L],
-        rules: &[R],
+        course: Course<L, R>,
         log: &[Cut],
         table: &mut [u16],
-        working: &mut [L],
-        numbers: &mut [u16],
-        wake_ups: &mut [WakeUp],
+        memory: &mut Memory<L>,
         rule: usize,
     ) -> Result<Deficiency, Refusal>
         requires { S.shut self.now.stage }
-        ensures { GroupSays L.limit (current_lists L.has (held_by self.now.numbers) opened.now log.now) (named_at R.names (take self.now.numbers.rules rules.now) rule) (group_refusal L.has L.limit R.lawful R.names (held_by self.now.numbers) opened.now rules.now log.now (lengths (length opened.now) (length rules.now) (length log.now) 0 (length table.old) (length working.old) (length numbers.old) (length wake_ups.old)) rule) table.old table.new result }
+        ensures group { GroupSays L.LIMIT (current_lists L.has (held_by self.now.numbers) course.entry.opened.now log.now) (named_at R.names (take self.now.numbers.rules course.entry.rules.now) rule) (group_refusal L.has L.LIMIT R.lawful R.names (held_by self.now.numbers) course.entry.opened.now course.entry.rules.now log.now (lent course.entry log.now 0 (length table.old) memory.old) rule) table.old table.new result }
+        ensures memory { KeepsLengths memory.old memory.new }
     {
-        self.numbers.group(opened, rules, log, table, working, numbers, wake_ups, rule)
+        let total = memory.numbers.len();
+        self.numbers.group(course, log, table, memory, total, rule)
     }
 
-    // The same where the table is the front of the working numbers, and `numbers` the rest of them.
+    // The same where `table` is the front of the working numbers: those lent are the rest of them, and count as n more.
     pub fn group_within<L: PlaceSet + Copy, R: Rule>(
         &self,
-        opened: &[L],
-        rules: &[R],
+        course: Course<L, R>,
         log: &[Cut],
         table: &mut [u16],
-        working: &mut [L],
-        numbers: &mut [u16],
-        wake_ups: &mut [WakeUp],
+        memory: &mut Memory<L>,
         rule: usize,
     ) -> Result<Deficiency, Refusal>
         requires { S.shut self.now.stage }
-        ensures { GroupSays L.limit (current_lists L.has (held_by self.now.numbers) opened.now log.now) (named_at R.names (take self.now.numbers.rules rules.now) rule) (group_refusal L.has L.limit R.lawful R.names (held_by self.now.numbers) opened.now rules.now log.now (lengths (length opened.now) (length rules.now) (length log.now) 0 (length table.old) (length working.old) (length numbers.old + self.now.numbers.n) (length wake_ups.old)) rule) table.old table.new result }
+        ensures group { GroupSays L.LIMIT (current_lists L.has (held_by self.now.numbers) course.entry.opened.now log.now) (named_at R.names (take self.now.numbers.rules course.entry.rules.now) rule) (group_refusal L.has L.LIMIT R.lawful R.names (held_by self.now.numbers) course.entry.opened.now course.entry.rules.now log.now (lent_with (length memory.old.numbers.now + self.now.numbers.n) course.entry log.now (length table.old) memory.old) rule) table.old table.new result }
+        ensures memory { KeepsLengths memory.old memory.new }
     {
-        let memory = numbers.len() + self.numbers.n as usize;
-        self.numbers.group_with(
-            opened, rules, log, table, working, numbers, wake_ups, memory, rule,
-        )
+        let with_table = memory.numbers.len() + self.numbers.n as usize;
+        self.numbers
+            .group(course, log, table, memory, with_table, rule)
     }
 }

@@ -4,6 +4,7 @@
 mod board;
 mod check;
 mod closed;
+mod course;
 mod fill;
 mod group;
 mod lengths;
@@ -16,6 +17,7 @@ mod standing;
 mod trial;
 
 pub use board::{Board, Rejected};
+pub use course::{Course, Memory};
 pub use fill::check_size;
 pub use lengths::Lengths;
 pub use numbers::Numbers;

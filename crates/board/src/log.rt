@@ -64,6 +64,7 @@ impl<S: Stage + Drop> Board<S> {
         ensures refusal { refusal_back result ≡ cut_refusal (held_by self.numbers) (length log.old) job place }
         ensures board { MatchResult result (λ b. Same self.numbers self.numbers.rules (self.numbers.cuts + 1) b.numbers × (log.new ≡ set log.old self.numbers.cuts (record { action = action; job = job; place = place }))) (λ e. (e.board ≡ self) × (log.new ≡ log.old)) }
     {
+        // No `map_err`: its closure would hold the board.
         match self.numbers.check_cut(log.len(), job, place) {
             Ok(()) => {
                 let counted = self.numbers.cuts;
@@ -72,20 +73,9 @@ impl<S: Stage + Drop> Board<S> {
                     job: job as u8,
                     place,
                 };
-                Ok(Board {
-                    stage: AtWork,
-                    numbers: Numbers {
-                        n: self.numbers.n,
-                        w: self.numbers.w,
-                        rules: self.numbers.rules,
-                        cuts: counted + 1,
-                    },
-                })
+                Ok(self.at_work(counted + 1))
             }
-            Err(refusal) => Err(Rejected {
-                refusal,
-                board: self,
-            }),
+            Err(refusal) => Err(self.rejected(refusal)),
         }
     }
 
@@ -95,20 +85,10 @@ impl<S: Stage + Drop> Board<S> {
         ensures refusal { refusal_back result ≡ return_refusal (held_by self.numbers) (length log.now) k }
         ensures board { MatchResult result (λ b. Same self.numbers self.numbers.rules k b.numbers) (λ e. e.board ≡ self) }
     {
+        // No `map_err`: its closure would hold the board.
         match self.numbers.check_return(log.len(), k) {
-            Ok(()) => Ok(Board {
-                stage: AtWork,
-                numbers: Numbers {
-                    n: self.numbers.n,
-                    w: self.numbers.w,
-                    rules: self.numbers.rules,
-                    cuts: k,
-                },
-            }),
-            Err(refusal) => Err(Rejected {
-                refusal,
-                board: self,
-            }),
+            Ok(()) => Ok(self.at_work(k)),
+            Err(refusal) => Err(self.rejected(refusal)),
         }
     }
 }

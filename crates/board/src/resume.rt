@@ -5,6 +5,7 @@ ghost use Rattle.board.specs.Book.{held_by, resume_refusal, tables_refusal};
 ghost use Rattle.board.specs.Outcomes.{held_as, Holds};
 
 use crate::board::Board;
+use crate::course::Course;
 use crate::fill::check_size;
 use crate::numbers::Numbers;
 use crate::stage::{AtWork, Stage};
@@ -18,17 +19,16 @@ impl Board<AtWork> {
     pub fn resume<L: PlaceSet, R: Rule>(
         n: u16,
         w: u16,
-        opened: &[L],
-        rules: &[R],
+        course: Course<L, R>,
         held: usize,
         log: &[Cut],
         counted: usize,
     ) -> Result<Board<AtWork>, Refusal>
-        ensures refusal { refusal_of result ≡ resume_refusal L.has L.limit R.lawful (held_as n w held counted) opened.now rules.now log.now }
+        ensures refusal { refusal_of result ≡ resume_refusal L.has L.LIMIT R.lawful (held_as n w held counted) course.entry.opened.now course.entry.rules.now log.now }
         ensures board { IfOk result (λ b. Holds n w held counted b.numbers) }
     {
-        check_size::<L>(n, w, opened.len())?;
-        if rules.len() < held || log.len() < counted {
+        check_size::<L>(n, w, course.opened.len())?;
+        if course.rules.len() < held || log.len() < counted {
             return Err(Refusal::TableTooShort);
         }
         if held > 64 || counted > 1024 {
@@ -40,7 +40,7 @@ impl Board<AtWork> {
             rules: held,
             cuts: counted,
         };
-        numbers.check_held(opened, rules, log)?;
+        numbers.check_held(course, log)?;
         Ok(Board {
             stage: AtWork,
             numbers,
@@ -52,18 +52,19 @@ impl<S: Stage + Drop> Board<S> {
     // These tables hold the board's lists, rules and cuts.
     pub fn check_tables<L: PlaceSet, R: Rule>(
         &self,
-        opened: &[L],
-        rules: &[R],
+        course: Course<L, R>,
         log: &[Cut],
     ) -> Result<(), Refusal>
-        ensures { refusal_of result ≡ tables_refusal L.has L.limit R.lawful (held_by self.now.numbers) opened.now rules.now log.now }
+        ensures { refusal_of result ≡ tables_refusal L.has L.LIMIT R.lawful (held_by self.now.numbers) course.entry.opened.now course.entry.rules.now log.now }
     {
         let n = self.numbers.n as usize;
-        if opened.len() < n || rules.len() < self.numbers.rules || log.len() < self.numbers.cuts {
+        if course.opened.len() < n
+            || course.rules.len() < self.numbers.rules
+            || log.len() < self.numbers.cuts
+        {
             return Err(Refusal::TableTooShort);
         }
-        self.numbers.check_held(opened, rules, log)?;
-        Ok(())
+        self.numbers.check_held(course, log)
     }
 
     pub fn jobs(&self) -> u16

@@ -5,134 +5,95 @@ ghost use Rattle.refusals.specs.Codes.{refusal_of};
 ghost use Rattle.places.specs.Families.{family};
 ghost use Rattle.cuts.specs.Current.{current};
 ghost use Rattle.board.specs.Book.{held_by, settle_refusal, Ready};
+ghost use Rattle.board.specs.Lent.{lent, KeepsLengths};
 ghost use Rattle.board.specs.Moments.{current_lists, Reached, SettleSays, Stands};
-ghost use Rattle.board.specs.Outcomes.{refusal_back, lengths};
+ghost use Rattle.board.specs.Outcomes.{refusal_back};
 
 use crate::board::{Board, Rejected};
-use crate::lengths::Lengths;
+use crate::course::{Course, Memory};
 use crate::numbers::Numbers;
 use crate::stage::{Settled, Stage};
 use cuts::{Cut, write_current};
 use places::PlaceSet;
 use refusals::Refusal;
 use rules::Rule;
-use settling::{WakeUp, settle};
-
-// Writes the opened lists with the cuts carried out to `lists`, and settles them. Answers with the lowest job left no place.
-pub(crate) fn settle_current<L: PlaceSet + Copy, R: Rule>(
-    opened: &[L],
-    rules: &[R],
-    cuts: &[Cut],
-    lists: &mut [L],
-    numbers: &mut [u16],
-    wake_ups: &mut [WakeUp],
-) -> Option<u16>
-    requires lists { length opened.now ≡ length lists.old }
-    requires rules { length rules.now ≤ 64 }
-    requires slots { length rules.now ≤ length wake_ups.old }
-    requires few { length lists.old ≤ 256 }
-    requires lawful { AllByRecursion (λ r. R.lawful r (length lists.old) ≡ true) rules.now }
-    requires memory { 8 * (length lists.old + L.limit) ≤ length numbers.old }
-    ensures { Reached L.has R.scope R.admits rules.now (length lists.old) (current (family L.has opened.now) cuts.now) lists.new result }
-{
-    write_current(opened, cuts, lists);
-    settle(rules, lists, numbers, wake_ups)
-}
+use settling::settle;
 
 impl Numbers {
-    fn check_settle<L: PlaceSet, R: Rule>(
+    // Writes the current lists by these cuts to the front of the working lists, and settles them by the held rules. Answers with the
+    // lowest job left no place.
+    pub(crate) fn settle_current<L: PlaceSet + Copy, R: Rule>(
         &self,
-        opened: &[L],
-        rules: &[R],
-        log: &[Cut],
-        tables: &Lengths,
-    ) -> Result<(), Refusal>
-        requires { (tables.now.opened ≡ length opened.now) × (tables.now.rules ≡ length rules.now) × (tables.now.log ≡ length log.now) }
-        ensures refusal { refusal_of result ≡ settle_refusal L.has L.limit R.lawful (held_by self.now) opened.now rules.now log.now tables.now }
-        ensures ready { OnOk result (Ready L.limit R.lawful (held_by self.now) rules.now tables.now × (self.now.n ≤ tables.now.standing)) }
+        course: Course<L, R>,
+        cuts: &[Cut],
+        memory: &mut Memory<L>,
+    ) -> Option<u16>
+        requires { Ready L.LIMIT R.lawful (held_by self.now) course.rules.now (lent course cuts.now 0 0 memory.old) }
+        ensures reached { Reached L.has R.scope R.admits (take self.now.rules course.entry.rules.now) self.now.n (current (family L.has (take self.now.n course.entry.opened.now)) cuts.now) (take self.now.n memory.new.working.now) result }
+        ensures memory { KeepsLengths memory.old memory.new }
     {
-        if self.are_short(L::width_limit(), tables) || tables.standing < self.n as usize {
-            return Err(Refusal::TableTooShort);
-        }
-        self.check_held(opened, rules, log)
+        let n = self.n as usize;
+        let lists = &mut memory.working[..n];
+        write_current(&course.opened[..n], cuts, lists);
+        settle(
+            &course.rules[..self.rules],
+            lists,
+            memory.numbers,
+            memory.wake_ups,
+        )
     }
 
-    // Writes the greatest consistent family inside the current lists to the front of the standing lists, where it leaves every job
-    // a place.
-    fn settle<L: PlaceSet + Copy, R: Rule>(
+    fn check_settle<L: PlaceSet, R: Rule>(
         &self,
-        opened: &[L],
-        rules: &[R],
+        course: Course<L, R>,
         log: &[Cut],
-        standing: &mut [L],
-        working: &mut [L],
-        numbers: &mut [u16],
-        wake_ups: &mut [WakeUp],
+        standing: usize,
+        memory: &Memory<L>,
     ) -> Result<(), Refusal>
-        ensures refusal { SettleSays R.scope R.admits (take self.now.rules rules.now) self.now.n (current_lists L.has (held_by self.now) opened.now log.now) (settle_refusal L.has L.limit R.lawful (held_by self.now) opened.now rules.now log.now (lengths (length opened.now) (length rules.now) (length log.now) (length standing.old) 0 (length working.old) (length numbers.old) (length wake_ups.old))) (refusal_of result) }
-        ensures standing { MatchResult result (λ _. Stands L.has R.scope R.admits (take self.now.rules rules.now) self.now.n (current_lists L.has (held_by self.now) opened.now log.now) standing.old standing.new) (λ _. standing.new ≡ standing.old) }
+        ensures refusal { refusal_of result ≡ settle_refusal L.has L.LIMIT R.lawful (held_by self.now) course.entry.opened.now course.entry.rules.now log.now (lent course.entry log.now standing 0 memory.now) }
+        ensures ready { OnOk result (Ready L.LIMIT R.lawful (held_by self.now) course.entry.rules.now (lent course.entry log.now standing 0 memory.now) × (self.now.n ≤ standing)) }
     {
-        let tables = Lengths {
-            opened: opened.len(),
-            rules: rules.len(),
-            log: log.len(),
-            standing: standing.len(),
-            group: 0,
-            working: working.len(),
-            numbers: numbers.len(),
-            wakes: wake_ups.len(),
-        };
-        self.check_settle(opened, rules, log, &tables)?;
-        let n = self.n as usize;
-        let held = self.rules;
-        let counted = self.cuts;
-        let lists = &mut working[0..n];
-        match settle_current(
-            &opened[0..n],
-            &rules[0..held],
-            &log[0..counted],
-            lists,
-            numbers,
-            wake_ups,
-        ) {
-            Some(job) => Err(Refusal::Short(job)),
-            None => {
-                standing[0..n].copy_from_slice(lists);
-                Ok(())
-            }
+        let tables = course.lengths(log, standing, 0, memory);
+        if self.are_short(L::LIMIT, &tables) || standing < self.n as usize {
+            return Err(Refusal::TableTooShort);
         }
+        self.check_held(course, log)
     }
 }
 
 impl<S: Stage + Drop> Board<S> {
-    // Writes the greatest consistent family inside the current lists to the standing lists; the board is then settled.
+    // Writes the greatest consistent family inside the current lists to the front of the standing lists, where it leaves every job a
+    // place; the board is then settled.
     pub fn settle<L: PlaceSet + Copy, R: Rule>(
         self,
-        opened: &[L],
-        rules: &[R],
+        course: Course<L, R>,
         log: &[Cut],
         standing: &mut [L],
-        working: &mut [L],
-        numbers: &mut [u16],
-        wake_ups: &mut [WakeUp],
+        memory: &mut Memory<L>,
     ) -> Result<Board<Settled>, Rejected<Board<S>>>
         requires { S.shut self.stage }
-        ensures refusal { SettleSays R.scope R.admits (take self.numbers.rules rules.now) self.numbers.n (current_lists L.has (held_by self.numbers) opened.now log.now) (settle_refusal L.has L.limit R.lawful (held_by self.numbers) opened.now rules.now log.now (lengths (length opened.now) (length rules.now) (length log.now) (length standing.old) 0 (length working.old) (length numbers.old) (length wake_ups.old))) (refusal_back result) }
+        ensures refusal { SettleSays R.scope R.admits (take self.numbers.rules course.entry.rules.now) self.numbers.n (current_lists L.has (held_by self.numbers) course.entry.opened.now log.now) (settle_refusal L.has L.LIMIT R.lawful (held_by self.numbers) course.entry.opened.now course.entry.rules.now log.now (lent course.entry log.now (length standing.old) 0 memory.old)) (refusal_back result) }
         ensures board { MatchResult result (λ b. b.numbers ≡ self.numbers) (λ e. e.board ≡ self) }
-        ensures standing { MatchResult result (λ _. Stands L.has R.scope R.admits (take self.numbers.rules rules.now) self.numbers.n (current_lists L.has (held_by self.numbers) opened.now log.now) standing.old standing.new) (λ _. standing.new ≡ standing.old) }
+        ensures standing { MatchResult result (λ _. Stands L.has R.scope R.admits (take self.numbers.rules course.entry.rules.now) self.numbers.n (current_lists L.has (held_by self.numbers) course.entry.opened.now log.now) standing.old standing.new) (λ _. standing.new ≡ standing.old) }
+        ensures memory { KeepsLengths memory.old memory.new }
     {
-        match self
+        let checked = self
             .numbers
-            .settle(opened, rules, log, standing, working, numbers, wake_ups)
-        {
-            Ok(()) => Ok(Board {
-                stage: Settled,
-                numbers: self.numbers,
-            }),
-            Err(refusal) => Err(Rejected {
-                refusal,
-                board: self,
-            }),
+            .check_settle(course, log, standing.len(), memory);
+        // No `map_err`: its closure would hold the board.
+        if let Err(refusal) = checked {
+            return Err(self.rejected(refusal));
         }
+        let n = self.numbers.n as usize;
+        let counted = self.numbers.cuts;
+        let short = self.numbers.settle_current(course, &log[..counted], memory);
+        if let Some(job) = short {
+            return Err(self.rejected(Refusal::Short(job)));
+        }
+        standing[..n].copy_from_slice(&memory.working[..n]);
+        Ok(Board {
+            stage: Settled,
+            numbers: self.numbers,
+        })
     }
 }

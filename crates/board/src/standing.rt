@@ -18,6 +18,6 @@ impl<S: Stage + Drop> Board<S> {
         if standing.len() < n {
             return Err(Refusal::TableTooShort);
         }
-        Ok(&standing[0..n])
+        Ok(&standing[..n])
     }
 }

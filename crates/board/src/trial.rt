@@ -3,19 +3,17 @@ ghost use Rattle.std.specs.Prelude.{◌≡◌, ◌+◌, ◌<◌, ◌≤◌, fals
 ghost use Rattle.refusals.specs.Codes.{says};
 ghost use Rattle.places.specs.Families.{fixed};
 ghost use Rattle.board.specs.Book.{held_by, short_tables, room_refusal, trial_refusal};
+ghost use Rattle.board.specs.Lent.{lent, KeepsLengths};
 ghost use Rattle.board.specs.Moments.{current_lists, TrialSays};
-ghost use Rattle.board.specs.Outcomes.{lengths};
 
 use crate::board::Board;
-use crate::lengths::Lengths;
+use crate::course::{Course, Memory};
 use crate::numbers::Numbers;
-use crate::settle::settle_current;
 use crate::stage::Stage;
 use cuts::{Action, Cut};
 use places::PlaceSet;
 use refusals::Refusal;
 use rules::Rule;
-use settling::WakeUp;
 
 // Holds the fix of a trial in one slot of the lent log; its end writes the old entry back, on every way out.
 struct TrialGuard<'a> {
@@ -39,20 +37,12 @@ impl Drop for TrialGuard<'_> {
 }
 
 impl TrialGuard<'_> {
-    // The counted cuts.
-    fn counted(&self) -> &[Cut]
-        requires { self.now.at < length self.now.log.now }
-        ensures { result.now ≡ take self.entry.now.at self.entry.now.log.now }
+    // The first entries of the log. By a call: after a part taken of the field itself, a proof does not know the guard's log.
+    fn front(&self, end: usize) -> &[Cut]
+        requires { end ≤ length self.now.log.now }
+        ensures { result.now ≡ take end self.entry.now.log.now }
     {
-        &self.log[0..self.at]
-    }
-
-    // The counted cuts and the trial's fix after them.
-    fn cuts(&self) -> &[Cut]
-        requires { self.now.at < length self.now.log.now }
-        ensures { result.now ≡ take (self.entry.now.at + 1) self.entry.now.log.now }
-    {
-        &self.log[0..self.at + 1]
+        &self.log[..end]
     }
 }
 
@@ -61,56 +51,45 @@ impl Numbers {
     // same.
     fn check_trial<L: PlaceSet, R: Rule>(
         &self,
-        opened: &[L],
-        rules: &[R],
+        course: Course<L, R>,
         log: &[Cut],
-        tables: &Lengths,
+        memory: &Memory<L>,
         job: u16,
         place: u16,
     ) -> Result<(), Refusal>
-        requires { (tables.now.opened ≡ length opened.now) × (tables.now.rules ≡ length rules.now) × (tables.now.log ≡ length log.now) }
-        ensures refusal { MatchResult result (λ _. (short_tables L.limit (held_by self.now) tables.now ≡ false) × (room_refusal (held_by self.now) tables.now.log job place ≡ None)) (λ e. Some (says e) ≡ trial_refusal L.has L.limit R.lawful (held_by self.now) opened.now rules.now log.now tables.now job place) }
-        ensures room { OnOk result ((self.now.cuts < tables.now.log) × (job < self.now.n)) }
+        ensures refusal { MatchResult result (λ _. (short_tables L.LIMIT (held_by self.now) (lent course.entry log.now 0 0 memory.now) ≡ false) × (room_refusal (held_by self.now) (length log.now) job place ≡ None)) (λ e. Some (says e) ≡ trial_refusal L.has L.LIMIT R.lawful (held_by self.now) course.entry.opened.now course.entry.rules.now log.now (lent course.entry log.now 0 0 memory.now) job place) }
+        ensures room { OnOk result ((self.now.cuts < length log.now) × (job < self.now.n)) }
     {
-        if self.are_short(L::width_limit(), tables) {
+        let tables = course.lengths(log, 0, 0, memory);
+        if self.are_short(L::LIMIT, &tables) {
             return Err(Refusal::TableTooShort);
         }
         if let Err(refusal) = self.check_room(log.len(), job, place) {
-            self.check_held(opened, rules, log)?;
+            self.check_held(course, log)?;
             return Err(refusal);
         }
         Ok(())
     }
 }
 
-impl Numbers {
-    // Whether the greatest consistent family inside the current lists, with the job fixed to the place, leaves every job a place.
-    fn trial<L: PlaceSet + Copy, R: Rule>(
+impl<S: Stage + Drop> Board<S> {
+    // Whether this job could still take that place: whether the greatest consistent family inside the current lists, with the job fixed
+    // to the place, leaves every job a place. Nothing but working memory changes.
+    pub fn trial<L: PlaceSet + Copy, R: Rule>(
         &self,
-        opened: &[L],
-        rules: &[R],
+        course: Course<L, R>,
         log: &mut [Cut],
-        working: &mut [L],
-        numbers: &mut [u16],
-        wake_ups: &mut [WakeUp],
+        memory: &mut Memory<L>,
         job: u16,
         place: u16,
     ) -> Result<bool, Refusal>
-        ensures answer { TrialSays R.scope R.admits (take self.now.rules rules.now) self.now.n (fixed job place (current_lists L.has (held_by self.now) opened.now log.old)) (trial_refusal L.has L.limit R.lawful (held_by self.now) opened.now rules.now log.old (lengths (length opened.now) (length rules.now) (length log.old) 0 0 (length working.old) (length numbers.old) (length wake_ups.old)) job place) result }
+        requires { S.shut self.now.stage }
+        ensures answer { TrialSays R.scope R.admits (take self.now.numbers.rules course.entry.rules.now) self.now.numbers.n (fixed job place (current_lists L.has (held_by self.now.numbers) course.entry.opened.now log.old)) (trial_refusal L.has L.LIMIT R.lawful (held_by self.now.numbers) course.entry.opened.now course.entry.rules.now log.old (lent course.entry log.old 0 0 memory.old) job place) result }
         ensures log { log.new ≡ log.old }
+        ensures memory { KeepsLengths memory.old memory.new }
     {
-        let tables = Lengths {
-            opened: opened.len(),
-            rules: rules.len(),
-            log: log.len(),
-            standing: 0,
-            group: 0,
-            working: working.len(),
-            numbers: numbers.len(),
-            wakes: wake_ups.len(),
-        };
-        self.check_trial(opened, rules, log, &tables, job, place)?;
-        let at = self.cuts;
+        self.numbers.check_trial(course, log, memory, job, place)?;
+        let at = self.numbers.cuts;
         let old = log[at];
         log[at] = Cut {
             action: Action::Fix,
@@ -118,43 +97,10 @@ impl Numbers {
             place,
         };
         let guard = TrialGuard { log, at, old };
-        if let Err(refusal) = self.check_held(opened, rules, guard.counted()) {
-            return Err(refusal);
-        }
-        let n = self.n as usize;
-        let held = self.rules;
-        match settle_current(
-            &opened[0..n],
-            &rules[0..held],
-            guard.cuts(),
-            &mut working[0..n],
-            numbers,
-            wake_ups,
-        ) {
-            Some(_) => Ok(false),
-            None => Ok(true),
-        }
-    }
-}
-
-impl<S: Stage + Drop> Board<S> {
-    // Could this job still take that place? Nothing but working memory changes.
-    pub fn trial<L: PlaceSet + Copy, R: Rule>(
-        &self,
-        opened: &[L],
-        rules: &[R],
-        log: &mut [Cut],
-        working: &mut [L],
-        numbers: &mut [u16],
-        wake_ups: &mut [WakeUp],
-        job: u16,
-        place: u16,
-    ) -> Result<bool, Refusal>
-        requires { S.shut self.now.stage }
-        ensures answer { TrialSays R.scope R.admits (take self.now.numbers.rules rules.now) self.now.numbers.n (fixed job place (current_lists L.has (held_by self.now.numbers) opened.now log.old)) (trial_refusal L.has L.limit R.lawful (held_by self.now.numbers) opened.now rules.now log.old (lengths (length opened.now) (length rules.now) (length log.old) 0 0 (length working.old) (length numbers.old) (length wake_ups.old)) job place) result }
-        ensures log { log.new ≡ log.old }
-    {
-        self.numbers
-            .trial(opened, rules, log, working, numbers, wake_ups, job, place)
+        self.numbers.check_held(course, guard.front(at))?;
+        let short = self
+            .numbers
+            .settle_current(course, guard.front(at + 1), memory);
+        Ok(short.is_none())
     }
 }

@@ -14,10 +14,7 @@ fn group_refusal(
     rule: usize,
 ) -> Result<Option<Refusal>, Refusal> {
     let board = tables.cut_board()?;
-    match tables.ask_group(&board, lent, rule) {
-        Ok(_) => Ok(None),
-        Err(refusal) => Ok(Some(refusal)),
-    }
+    Ok(tables.ask_group(&board, lent, rule).err())
 }
 
 #[test]
@@ -66,9 +63,12 @@ fn trial_lacks(lent: Lengths) -> Result<bool, Refusal> {
 #[test]
 fn short_tables_of_a_trial(rt: HostRuntime) -> Result<(), Fail> {
     assert!(rt; !trial_lacks(ROOM)?);
-    let mut lent = ROOM;
-    lent.numbers = 535;
-    assert!(rt; trial_lacks(lent)?);
+    assert!(rt;
+        trial_lacks(Lengths {
+            numbers: 535,
+            ..ROOM
+        })?
+    );
     assert!(rt; trial_lacks(Lengths { opened: 2, ..ROOM })?);
     assert!(rt; trial_lacks(Lengths { rules: 1, ..ROOM })?);
     assert!(rt; trial_lacks(Lengths { log: 1, ..ROOM })?);
@@ -107,7 +107,7 @@ fn rules_without_a_group(rt: HostRuntime) -> Result<(), Fail> {
     assert_eq!(rt; group_refusal(&mut tables, &ENOUGH, 0)?, None);
     let none = Some(Refusal::NoDistinctRule);
     assert_eq!(rt; group_refusal(&mut tables, &ENOUGH, 1)?, none);
-    tables.rules[2] = ALL_THREE;
+    tables.course.rules[2] = ALL_THREE;
     assert_eq!(rt; group_refusal(&mut tables, &ROOM, 2)?, none);
     assert_eq!(rt; group_refusal(&mut tables, &ENOUGH, 1 << 40)?, none);
     Ok(())

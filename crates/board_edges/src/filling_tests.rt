@@ -1,6 +1,6 @@
 // Opening, adding rules and closing.
 use crate::tables::*;
-use board::{Board, Filling};
+use board::{Board, Course, Filling};
 use places::{CarrierRow, NeedleList};
 use records::RuleRecord;
 use refusals::Refusal;
@@ -9,14 +9,16 @@ use std::test::Fail;
 // The refusal of opening a board of rows that hold place 63 alone.
 fn opening(n: u16, w: u16, lists: usize) -> Option<Refusal> {
     let opened = [CarrierRow(1 << 63); 257];
-    match Board::open(n, w, &opened[0..lists.min(257)]) {
-        Ok(_) => None,
-        Err(refusal) => Some(refusal),
-    }
+    Board::open(n, w, &opened[..lists.min(257)]).err()
 }
 
 fn filling(opened: &[CarrierRow]) -> Result<Board<Filling>, Refusal> {
     Board::open(3, 8, opened)
+}
+
+// The refusal of closing a board over these lists and rules.
+fn closed(board: Board<Filling>, opened: &[CarrierRow], rules: &[RuleRecord]) -> Option<Refusal> {
+    refused(board.close(Course { opened, rules }))
 }
 
 #[test]
@@ -37,10 +39,7 @@ fn bed_widths(rt: HostRuntime) {
 
 // The refusal of opening a board of one job on needle lists.
 fn opening_by_needles(w: u16, opened: &[NeedleList]) -> Option<Refusal> {
-    match Board::open(1, w, opened) {
-        Ok(_) => None,
-        Err(refusal) => Some(refusal),
-    }
+    Board::open(1, w, opened).err()
 }
 
 #[test]
@@ -59,16 +58,8 @@ fn bed_widths_of_needles(rt: HostRuntime) -> Result<(), Fail> {
 fn places_at_the_width(rt: HostRuntime) -> Result<(), Fail> {
     assert_eq!(rt; opening(2, 63, 2), Some(Refusal::PlaceTooLarge(0)));
     let opened = [CarrierRow(128), CarrierRow(256), CarrierRow(512)];
-    match filling(&opened) {
-        Ok(_) => {
-            assert!(rt; false);
-            Ok(())
-        },
-        Err(refusal) => {
-            assert_eq!(rt; refusal, Refusal::PlaceTooLarge(1));
-            Ok(())
-        },
-    }
+    assert_eq!(rt; filling(&opened).err(), Some(Refusal::PlaceTooLarge(1)));
+    Ok(())
 }
 
 #[test]
@@ -112,8 +103,7 @@ fn sixty_four_rules(rt: HostRuntime) -> Result<(), Fail> {
     let mut board = filling(&[CarrierRow(1); 3])?;
     add_sixty_four(&mut board, &mut rules)?;
     assert_eq!(rt; board.add_rule(&mut rules, SUM), Err(Refusal::Full));
-    let closed = board.close(&[CarrierRow(1); 3], &rules);
-    assert_eq!(rt; refused(closed), None);
+    assert_eq!(rt; closed(board, &[CarrierRow(1); 3], &rules), None);
     Ok(())
 }
 
@@ -124,8 +114,7 @@ fn closing(rt: HostRuntime) -> Result<(), Fail> {
     let mut board = filling(&opened)?;
     board.add_rule(&mut rules, SUM)?;
     board.add_rule(&mut rules, SUM)?;
-    let closed = board.close(&opened, &rules);
-    assert_eq!(rt; refused(closed), None);
+    assert_eq!(rt; closed(board, &opened, &rules), None);
     Ok(())
 }
 
@@ -136,10 +125,9 @@ fn closing_by_short_tables(rt: HostRuntime) -> Result<(), Fail> {
     let mut board = filling(&opened)?;
     board.add_rule(&mut rules, SUM)?;
     board.add_rule(&mut rules, SUM)?;
-    let closed = board.close(&opened, &rules[0..1]);
-    assert_eq!(rt; refused(closed), Some(Refusal::TableTooShort));
-    let closed = filling(&opened)?.close(&opened[0..2], &rules);
-    assert_eq!(rt; refused(closed), Some(Refusal::TableTooShort));
+    let short = Some(Refusal::TableTooShort);
+    assert_eq!(rt; closed(board, &opened, &rules[..1]), short);
+    assert_eq!(rt; closed(filling(&opened)?, &opened[..2], &rules), short);
     Ok(())
 }
 
@@ -151,10 +139,10 @@ fn closing_by_overwritten_tables(rt: HostRuntime) -> Result<(), Fail> {
     board.add_rule(&mut rules, SUM)?;
     board.add_rule(&mut rules, SUM)?;
     rules[1] = UNLAWFUL;
-    let closed = board.close(&opened, &rules);
-    assert_eq!(rt; refused(closed), Some(Refusal::UnlawfulRule(1)));
+    let unlawful = Some(Refusal::UnlawfulRule(1));
+    assert_eq!(rt; closed(board, &opened, &rules), unlawful);
     let wide = [CarrierRow(1), CarrierRow(1), CarrierRow(256)];
-    let closed = filling(&opened)?.close(&wide, &rules);
-    assert_eq!(rt; refused(closed), Some(Refusal::PlaceTooLarge(2)));
+    let too_large = Some(Refusal::PlaceTooLarge(2));
+    assert_eq!(rt; closed(filling(&opened)?, &wide, &rules), too_large);
     Ok(())
 }

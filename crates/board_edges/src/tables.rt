@@ -1,23 +1,35 @@
 // Tables of four jobs, lent in the lengths that a test asks for.
-use board::{AtWork, Board, Lengths, Rejected, Settled};
+use board::{AtWork, Board, Course, Lengths, Memory, Rejected, Settled};
 use cuts::{Action, Cut};
 use distinct::{Deficiency, Distinct};
 use places::CarrierRow;
 use records::RuleRecord;
 use refusals::Refusal;
-use rules::Sum;
+use rules::{Addition, Progression, Sum};
 use settling::WakeUp;
 
-pub const SUM: RuleRecord = RuleRecord::Sum(Sum { a: 0, b: 1, c: 2 });
+pub const SUM: RuleRecord = RuleRecord::Sum(Sum {
+    a: 0,
+    b: 1,
+    c: 2,
+    by: Addition,
+});
 
 pub const ALL_THREE: RuleRecord = RuleRecord::Distinct(Distinct {
-    first: 0,
-    step: 1,
-    count: 3,
+    jobs: Progression {
+        first: 0,
+        step: 1,
+        count: 3,
+    },
 });
 
 // No rule of any board.
-pub const UNLAWFUL: RuleRecord = RuleRecord::Sum(Sum { a: 0, b: 0, c: 0 });
+pub const UNLAWFUL: RuleRecord = RuleRecord::Sum(Sum {
+    a: 0,
+    b: 0,
+    c: 0,
+    by: Addition,
+});
 
 // A cut of a board of three jobs and width 8.
 pub const INSIDE: Cut = Cut {
@@ -45,36 +57,94 @@ pub const ENOUGH: Lengths = Lengths {
     wakes: 2,
 };
 
+// The whole tables of a course.
+const WHOLE: Lengths = Lengths {
+    opened: 4,
+    rules: 4,
+    ..ENOUGH
+};
+
+// The lists and the rules of a course.
 #[derive(Drop)]
-pub struct Tables {
+pub struct CourseTables {
     pub opened: [CarrierRow; 4],
     pub rules: [RuleRecord; 4],
+}
+
+#[derive(Drop)]
+pub struct Tables {
+    pub course: CourseTables,
     pub log: [Cut; 4],
     pub standing: [CarrierRow; 4],
     pub group: [u16; 4],
 }
 
+#[derive(Drop)]
+struct WorkTables {
+    working: [CarrierRow; 4],
+    numbers: [u16; 544],
+    wake_ups: [WakeUp; 4],
+}
+
+fn front<T>(table: &[T], lent: usize) -> &[T] {
+    &table[..lent.min(table.len())]
+}
+
+fn front_mut<T>(table: &mut [T], lent: usize) -> &mut [T] {
+    let end = lent.min(table.len());
+    &mut table[..end]
+}
+
+impl CourseTables {
+    pub fn lent(&self, lent: &Lengths) -> Course<'_, CarrierRow, RuleRecord> {
+        Course {
+            opened: front(&self.opened, lent.opened),
+            rules: front(&self.rules, lent.rules),
+        }
+    }
+}
+
+impl WorkTables {
+    fn new() -> WorkTables {
+        WorkTables {
+            working: [CarrierRow(9); 4],
+            numbers: [9; 544],
+            wake_ups: [WakeUp { rule: 9, job: 9 }; 4],
+        }
+    }
+
+    fn lent(&mut self, lent: &Lengths) -> Memory<'_, '_, '_, CarrierRow> {
+        // Taken apart first: a slice of an array behind a reference gets no proof.
+        let WorkTables {
+            working,
+            numbers,
+            wake_ups,
+        } = self;
+        Memory {
+            working: &mut working[..lent.working.min(4)],
+            numbers: &mut numbers[..lent.numbers.min(544)],
+            wake_ups: &mut wake_ups[..lent.wakes.min(4)],
+        }
+    }
+}
+
 // The board of a call, without the board that a refusal hands back.
 pub fn made<T, B: Drop>(answer: Result<T, Rejected<B>>) -> Result<T, Refusal> {
-    match answer {
-        Ok(board) => Ok(board),
-        Err(rejected) => Err(rejected.refusal),
-    }
+    answer.map_err(|rejected| rejected.refusal)
 }
 
 // The refusal of a call.
 pub fn refused<T: Drop, B: Drop>(answer: Result<T, Rejected<B>>) -> Option<Refusal> {
-    match answer {
-        Ok(_) => None,
-        Err(rejected) => Some(rejected.refusal),
-    }
+    answer.err().map(|rejected| rejected.refusal)
 }
 
 impl Tables {
     pub fn new(a: u64, b: u64, c: u64) -> Tables {
         Tables {
-            opened: [CarrierRow(a), CarrierRow(b), CarrierRow(c), CarrierRow(0)],
-            rules: [UNLAWFUL; 4],
+            course: CourseTables {
+                opened: [CarrierRow(a), CarrierRow(b), CarrierRow(c), CarrierRow(0)],
+                rules: [UNLAWFUL; 4],
+            },
             log: [OUTSIDE; 4],
             standing: [CarrierRow(9); 4],
             group: [9; 4],
@@ -83,10 +153,10 @@ impl Tables {
 
     // A board of three jobs and width 8 by a distinct rule and a sum, closed.
     pub fn board(&mut self) -> Result<Board<AtWork>, Refusal> {
-        let mut board = Board::open(3, 8, &self.opened)?;
-        board.add_rule(&mut self.rules, ALL_THREE)?;
-        board.add_rule(&mut self.rules, SUM)?;
-        made(board.close(&self.opened, &self.rules))
+        let mut board = Board::open(3, 8, &self.course.opened)?;
+        board.add_rule(&mut self.course.rules, ALL_THREE)?;
+        board.add_rule(&mut self.course.rules, SUM)?;
+        made(board.close(self.course.lent(&WHOLE)))
     }
 
     // The same with two cuts that strike nothing.
@@ -101,13 +171,11 @@ impl Tables {
         board: Board<AtWork>,
         lent: &Lengths,
     ) -> Result<Board<Settled>, Rejected<Board<AtWork>>> {
-        settle_fronts(
-            board,
-            lent,
-            &self.opened,
-            &self.rules,
-            &self.log,
-            &mut self.standing,
+        board.settle(
+            self.course.lent(lent),
+            front(&self.log, lent.log),
+            front_mut(&mut self.standing, lent.standing),
+            &mut WorkTables::new().lent(lent),
         )
     }
 
@@ -118,12 +186,10 @@ impl Tables {
         job: u16,
         place: u16,
     ) -> Result<bool, Refusal> {
-        try_fronts(
-            board,
-            lent,
-            &self.opened,
-            &self.rules,
-            &mut self.log,
+        board.trial(
+            self.course.lent(lent),
+            front_mut(&mut self.log, lent.log),
+            &mut WorkTables::new().lent(lent),
             job,
             place,
         )
@@ -135,90 +201,12 @@ impl Tables {
         lent: &Lengths,
         rule: usize,
     ) -> Result<Deficiency, Refusal> {
-        group_fronts(
-            board,
-            lent,
-            &self.opened,
-            &self.rules,
-            &self.log,
-            &mut self.group,
+        board.group(
+            self.course.lent(lent),
+            front(&self.log, lent.log),
+            front_mut(&mut self.group, lent.group),
+            &mut WorkTables::new().lent(lent),
             rule,
         )
     }
-}
-
-// A settling that is lent the fronts of the tables.
-fn settle_fronts(
-    board: Board<AtWork>,
-    lent: &Lengths,
-    opened: &[CarrierRow],
-    rules: &[RuleRecord],
-    log: &[Cut],
-    standing: &mut [CarrierRow],
-) -> Result<Board<Settled>, Rejected<Board<AtWork>>> {
-    let mut working = [CarrierRow(9); 4];
-    let mut numbers = [9; 544];
-    let mut wake_ups = [WakeUp { rule: 9, job: 9 }; 4];
-    let room = standing.len();
-    board.settle(
-        &opened[0..lent.opened.min(opened.len())],
-        &rules[0..lent.rules.min(rules.len())],
-        &log[0..lent.log.min(log.len())],
-        &mut standing[0..lent.standing.min(room)],
-        &mut working[0..lent.working.min(4)],
-        &mut numbers[0..lent.numbers.min(544)],
-        &mut wake_ups[0..lent.wakes.min(4)],
-    )
-}
-
-// A trial that is lent the fronts of the tables.
-fn try_fronts(
-    board: &Board<AtWork>,
-    lent: &Lengths,
-    opened: &[CarrierRow],
-    rules: &[RuleRecord],
-    log: &mut [Cut],
-    job: u16,
-    place: u16,
-) -> Result<bool, Refusal> {
-    let mut working = [CarrierRow(9); 4];
-    let mut numbers = [9; 544];
-    let mut wake_ups = [WakeUp { rule: 9, job: 9 }; 4];
-    let room = log.len();
-    board.trial(
-        &opened[0..lent.opened.min(opened.len())],
-        &rules[0..lent.rules.min(rules.len())],
-        &mut log[0..lent.log.min(room)],
-        &mut working[0..lent.working.min(4)],
-        &mut numbers[0..lent.numbers.min(544)],
-        &mut wake_ups[0..lent.wakes.min(4)],
-        job,
-        place,
-    )
-}
-
-// A group question that is lent the fronts of the tables.
-fn group_fronts(
-    board: &Board<AtWork>,
-    lent: &Lengths,
-    opened: &[CarrierRow],
-    rules: &[RuleRecord],
-    log: &[Cut],
-    group: &mut [u16],
-    rule: usize,
-) -> Result<Deficiency, Refusal> {
-    let mut working = [CarrierRow(9); 4];
-    let mut numbers = [9; 544];
-    let mut wake_ups = [WakeUp { rule: 9, job: 9 }; 4];
-    let room = group.len();
-    board.group(
-        &opened[0..lent.opened.min(opened.len())],
-        &rules[0..lent.rules.min(rules.len())],
-        &log[0..lent.log.min(log.len())],
-        &mut group[0..lent.group.min(room)],
-        &mut working[0..lent.working.min(4)],
-        &mut numbers[0..lent.numbers.min(544)],
-        &mut wake_ups[0..lent.wakes.min(4)],
-        rule,
-    )
 }

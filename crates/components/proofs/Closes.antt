@@ -1,5 +1,5 @@
 -- A segment becomes a component, in tables.
-use Rattle.std.proofs.Common.{◌≡◌, ℕ, suc, ◌+◌, ◌-◌, ◌<◌, ◌≤◌, Bool, true, false, ◌&&◌, eqb, ◌≢◌, ◌⊎◌, List, length, Decides, sym, refl, ap, ◌∙◌, subst, subst₂, inl, inr, arith, eq-eqb, eqb-true}
+use Rattle.std.proofs.Common.{◌≡◌, ℕ, suc, ◌+◌, ◌-◌, ◌<◌, ◌≤◌, Bool, true, false, ◌&&◌, ◌==◌, ◌≢◌, ◌⊎◌, List, length, IsTrue, ◌↔◌, sym, refl, ap, ◌∙◌, subst, subst₂, inl, inr, arith, eq-eqb, eqb-true}
 use mathlib.Core.Path.{fun_ext}
 use native.Mathlib.Decide.{ℕ_discrete, dec_lt}
 use Rattle.theory.specs.Counts.{bit, count}
@@ -10,10 +10,10 @@ use Rattle.theory.proofs.Sums.{clash, and_left, and_right, both, or_left, or_rig
 use Rattle.theory.proofs.Trails.{trail_closes, together, loosened_more}
 use Rattle.matching.specs.Tables.{at, filled}
 use Rattle.matching.proofs.Tables.{filled_some, some_filled}
-use Rattle.components.specs.declared.stack.Heights.{Heights}
-use Rattle.components.specs.Walks.{Setting, FullMatching, Tables, tables, edge, passed, cut, Free, loose, TrailOf, Walked}
+use Rattle.components.specs.Walks.{Heights, Setting, FullMatching, Tables, tables, edge, passed, cut, Free, loose, TrailOf, Walked}
 use Rattle.components.specs.Steps.{Labelled, HasOutlet, SomeOutlet, Closed}
 use Rattle.components.proofs.Cuts.{cut_has, popped_low, popped_high}
+use Rattle.components.proofs.Follows.{retabled}
 use Rattle.components.proofs.Walks.{heights, last, last_on, cuts_some, tops}
 
 -- ---- outlets
@@ -25,10 +25,10 @@ module _ (g : Setting) (f : FullMatching g) (index labels : List ℕ) where
   pub outlet_loose : (a : ℕ) → a < g.jobs → HasOutlet g index labels a → Loose a
   outlet_loose a la (p, lp, h, o) = elim (ℕ_discrete (at g.holders p) 65535) [
     | yes e ↦ inl (p, lp, h, e)
-    | no ne ↦ by ne (or_cases (eqb (at g.holders p) 65535) _ o)
+    | no ne ↦ by ne (or_cases (at g.holders p == 65535) _ o)
   ]
     where
-      by : at g.holders p ≢ 65535 → (eqb (at g.holders p) 65535 ≡ true) ⊎ ((filled labels (at g.holders p) && loose index (at g.holders p)) ≡ true) → Loose a
+      by : at g.holders p ≢ 65535 → ((at g.holders p == 65535) ≡ true) ⊎ ((filled labels (at g.holders p) && loose index (at g.holders p)) ≡ true) → Loose a
       by ne (inl e) = absurd (ne (eqb-true (at g.holders p) 65535 e))
       by ne (inr e) =
           let (lb, fb, back) = f.matched.back p lp ne in
@@ -41,12 +41,12 @@ module _ (g : Setting) (f : FullMatching g) (index labels : List ℕ) where
         at g.places b,
         f.matched.valid.within b lb (f.every b lb),
         h,
-        or_right (eqb (at g.holders (at g.places b)) 65535) (subst (λ (x : ℕ). (filled labels x && loose index x) ≡ true) (sym e) (both d o)),
+        or_right (at g.holders (at g.places b) == 65535) (subst (λ (x : ℕ). (filled labels x && loose index x) ≡ true) (sym e) (both d o)),
       )
 
 -- ---- the component
 
-bit_loose : (flag : Bool) → eqb (bit flag) 1 ≡ flag
+bit_loose : (flag : Bool) → (bit flag == 1) ≡ flag
 bit_loose true = refl
 bit_loose false = refl
 
@@ -129,14 +129,14 @@ module _ (g : Setting) (f : FullMatching g) (t : Tables) (s : Heights) (k : Walk
     seen_same : filled t.index ≡ filled index'
     seen_same = fun_ext (λ a. elim (member? a) [
       | inl (x, low, l, e) ↦ sym (ap (filled t.index) e) ∙ k.trail.on_seen x l ∙ sym (some_filled index' a (λ z. bit_small flag (sym (marked a (x, low, l, e)) ∙ z)))
-      | inr o ↦ ap (λ (v : ℕ). mathlib.Core.Bool.not (eqb v 65535)) (sym (mark.kept a o))
+      | inr o ↦ ap (λ (v : ℕ). mathlib.Core.Bool.not (v == 65535)) (sym (mark.kept a o))
     ])
 
     loose_kept : (a : ℕ) → a < m → filled t.labels a ≡ true → loose index' a ≡ loose t.index a
-    loose_kept a l d = ap (λ (v : ℕ). eqb v 1) (mark.kept a (done_outside a d))
+    loose_kept a l d = ap (λ (v : ℕ). v == 1) (mark.kept a (done_outside a d))
 
     loose_new : (a : ℕ) → a < m → Member a → loose index' a ≡ flag
-    loose_new a l i = ap (λ (v : ℕ). eqb v 1) (marked a i) ∙ bit_loose flag
+    loose_new a l i = ap (λ (v : ℕ). v == 1) (marked a i) ∙ bit_loose flag
 
     module _ (spent : Spent R past (at t.nodes from)) (q : at t.cuts (s.cuts - 1) ≡ from) (some : 0 < s.cuts) where
       closed_trail : TrailOf g after (heights from (s.cuts - 1) (s.depth - 1) (suc s.next))
@@ -151,7 +151,7 @@ module _ (g : Setting) (f : FullMatching g) (t : Tables) (s : Heights) (k : Walk
           (λ z l. popped_high t.cuts s.cuts k.rises (s.cuts - 1) (omega arith) z (omega (arith, q)))
           (λ x l. mark.kept (at t.nodes x) (below_outside x l)))
 
-      closed_loosened : Decides flag (SomeOutlet g t.index t.labels t.nodes from s.top) → Loosened R (Free g) m (filled labels') (loose index')
+      closed_loosened : (IsTrue flag ↔ SomeOutlet g t.index t.labels t.nodes from s.top) → Loosened R (Free g) m (filled labels') (loose index')
       closed_loosened (yes', back) =
           loosened_more R (Free g) m (filled t.labels) (filled labels') (loose t.index) (loose index') Member flag k.loosened
           (λ a b la lb d r. (k.trail.closed a b la lb d r).0) (λ a b la lb d r. (closed_trail.closed a b la lb d r).0) (λ a l d. done_is a d) linked loose_kept loose_new
@@ -162,28 +162,33 @@ module _ (g : Setting) (f : FullMatching g) (t : Tables) (s : Heights) (k : Walk
           found (x, low, l, o) = (at t.nodes x, (x, low, l, refl), outlet_loose g f t.index t.labels (at t.nodes x) (k.trail.on_job x l) o)
 
   -- the last of the path is spent, and the first of its segment
-  pub walked_closes : (index' labels' : List ℕ) (r : Heights) → length index' ≡ length t.index → length labels' ≡ length t.labels
-      → Spent R past (at t.nodes from) → at t.cuts (s.cuts - 1) ≡ from
-      → Closed g s from t.index t.labels t.nodes index' labels' r → Walked g (tables t.cursors index' labels' t.nodes t.cuts t.path) r
-  walked_closes index' labels' r ei el spent q c =
+  pub walked_closes : (t' : Tables) (s' : Heights) → Spent R past (at t.nodes from) → at t.cuts (s.cuts - 1) ≡ from → Closed g t s from t' s' → Walked g t' s'
+  walked_closes t' s' spent q c =
       let (flag, decides, mark) = c.marked in
       let some : 0 < s.cuts = cuts_some g t s k (omega (arith, last_on g t s k p)) in
-      let fi : m ≤ length index' = omega (arith, k.fit.index) in
-      let fl : m ≤ length labels' = omega (arith, k.fit.labels) in
+      let fi : m ≤ length t'.index = omega (arith, k.fit.index, mark.len) in
+      let fl : m ≤ length t'.labels = omega (arith, k.fit.labels, c.numbered.len) in
       let e : suc s.next ≡ s.next + 1 = omega arith in
-      subst (Walked g (tables t.cursors index' labels' t.nodes t.cuts t.path)) (sym c.heights)
-      (subst (λ (n : ℕ). Walked g (tables t.cursors index' labels' t.nodes t.cuts t.path) (heights from (s.cuts - 1) (s.depth - 1) n)) e
+      retabled g c.tables c.heights
+      (subst (λ (n : ℕ). Walked g (tables t.cursors t'.index t'.labels t.nodes t.cuts t.path) (heights from (s.cuts - 1) (s.depth - 1) n)) e
       (record {
-        trail = closed_trail index' labels' flag c.numbered mark spent q some;
-        loosened = closed_loosened index' labels' flag c.numbered mark spent q some decides;
+        trail = closed_trail t'.index t'.labels flag c.numbered mark spent q some;
+        loosened = closed_loosened t'.index t'.labels flag c.numbered mark spent q some decides;
         rises = λ i j l h. k.rises i j l (omega arith);
-        tally = omega (arith, k.tally, last_on g t s k p, ap (λ (A : ℕ → Bool). count A m) (seen_same index' labels' flag c.numbered mark));
+        tally = omega (arith, k.tally, last_on g t s k p, ap (λ (A : ℕ → Bool). count A m) (seen_same t'.index t'.labels flag c.numbered mark));
         few = k.few;
         fit = record { cursors = k.fit.cursors; index = fi; labels = fl; nodes = k.fit.nodes; cuts = k.fit.cuts; path = k.fit.path };
       }))
 
   -- what was seen stays so
-  pub seen_closed : (index' labels' : List ℕ) (r : Heights) → Closed g s from t.index t.labels t.nodes index' labels' r → (a : ℕ) → filled t.index a ≡ true → filled index' a ≡ true
-  seen_closed index' labels' r c a h =
+  pub seen_closed : (t' : Tables) (s' : Heights) → Closed g t s from t' s' → (a : ℕ) → filled t.index a ≡ true → filled t'.index a ≡ true
+  seen_closed t' s' c a h =
       let (flag, decides, mark) = c.marked in
-      sym (ap (λ (A : ℕ → Bool). A a) (seen_same index' labels' flag c.numbered mark)) ∙ h
+      sym (ap (λ (A : ℕ → Bool). A a) (seen_same t'.index t'.labels flag c.numbered mark)) ∙ h
+
+  -- the same at a position that is the last of the path
+  pub closes_at : (x : ℕ) → from ≡ x → (t' : Tables) (s' : Heights) → Spent R past (at t.nodes x) → at t.cuts (s.cuts - 1) ≡ x → Closed g t s x t' s'
+      → Walked g t' s' × ((a : ℕ) → filled t.index a ≡ true → filled t'.index a ≡ true)
+  closes_at x e t' s' =
+      subst (λ (y : ℕ). Spent R past (at t.nodes y) → at t.cuts (s.cuts - 1) ≡ y → Closed g t s y t' s' → Walked g t' s' × ((a : ℕ) → filled t.index a ≡ true → filled t'.index a ≡ true)) e
+      (λ spent q c. (walked_closes t' s' spent q c, seen_closed t' s' c))

@@ -1,37 +1,37 @@
 -- The cuts of a search in a table.
-use Rattle.std.proofs.Common.{◌≡◌, ℕ, suc, ◌<◌, ◌≤◌, Bool, true, false, eqb, ◌≢◌, List, length, set, sym, refl, ap, ◌∙◌, subst, inl, inr, arith, get_or-set_other, get_or-set_same, eq-eqb, eqb-true}
+use Rattle.std.proofs.Common.{◌≡◌, ℕ, suc, ◌<◌, ◌≤◌, Bool, true, false, ◌==◌, ◌≢◌, List, length, slice_set, sym, ap, ◌∙◌, subst, inl, inr, arith, get_or-set_other, get_or-set_same, eq-eqb, eqb-true}
 use mathlib.Core.Path.{fun_ext}
 use native.Mathlib.Decide.{ℕ_discrete, dec_lt}
+use Rattle.std.proofs.lemmas.Bool.Decides.{same_from_decides}
 use Rattle.theory.specs.Assignments.{with}
 use Rattle.theory.proofs.Sums.{cases, some_has, some_at}
 use Rattle.theory.proofs.Moves.{with_same, with_has, with_is}
 use Rattle.matching.specs.Tables.{at}
 use Rattle.components.specs.Walks.{cut}
 
+-- two tests that hold together
 same_test : (a b : Bool) → (a ≡ true → b ≡ true) → (b ≡ true → a ≡ true) → a ≡ b
-same_test true b f g = sym (f refl)
-same_test false true f g = g refl
-same_test false false f g = refl
+same_test a b f g = same_from_decides a b (f, g) (λ e. e, λ e. e)
 
 pub cut_has : (cuts : List ℕ) (n i z : ℕ) → i < n → at cuts i ≡ z → cut cuts n z ≡ true
-cut_has cuts n i z l e = some_has (λ k. eqb (at cuts k) z) n i l (eq-eqb (at cuts i) z e)
+cut_has cuts n i z l e = some_has (λ k. at cuts k == z) n i l (eq-eqb (at cuts i) z e)
 
 pub cut_is : (cuts : List ℕ) (n z : ℕ) → cut cuts n z ≡ true → (i : ℕ) × (i < n) × (at cuts i ≡ z)
-cut_is cuts n z h = let (i, l, e) = some_at (λ k. eqb (at cuts k) z) n h in (i, l, eqb-true (at cuts i) z e)
+cut_is cuts n z h = let (i, l, e) = some_at (λ k. at cuts k == z) n h in (i, l, eqb-true (at cuts i) z e)
 
 not_cut : (cuts : List ℕ) (n z : ℕ) → ((i : ℕ) → i < n → at cuts i ≢ z) → cut cuts n z ≡ false
 not_cut cuts n z h = elim (cases (cut cuts n z)) [ inr e ↦ e | inl y ↦ let (i, l, e) = cut_is cuts n z y in absurd (h i l e) ]
 
 -- one more
-pub cut_push : (cuts : List ℕ) (n v : ℕ) → n < length cuts → cut (set cuts n v) (suc n) ≡ with (cut cuts n) v
-cut_push cuts n v l = fun_ext (λ z. same_test (cut (set cuts n v) (suc n) z) (with (cut cuts n) v z)
-    (λ h. let (i, li, e) = cut_is (set cuts n v) (suc n) z h in elim (ℕ_discrete i n) [
-      | yes q ↦ subst (λ (x : ℕ). with (cut cuts n) v x ≡ true) (sym (get_or-set_same cuts n v 0 l) ∙ (sym (ap (at (set cuts n v)) q) ∙ e)) (with_same (cut cuts n) v)
+pub cut_push : (cuts : List ℕ) (n v : ℕ) → n < length cuts → cut (slice_set cuts n v) (suc n) ≡ with (cut cuts n) v
+cut_push cuts n v l = fun_ext (λ z. same_test (cut (slice_set cuts n v) (suc n) z) (with (cut cuts n) v z)
+    (λ h. let (i, li, e) = cut_is (slice_set cuts n v) (suc n) z h in elim (ℕ_discrete i n) [
+      | yes q ↦ subst (λ (x : ℕ). with (cut cuts n) v x ≡ true) (sym (get_or-set_same cuts n v 0 l) ∙ (sym (ap (at (slice_set cuts n v)) q) ∙ e)) (with_same (cut cuts n) v)
       | no ne ↦ with_has (cut cuts n) v z (cut_has cuts n i z (omega arith) (sym (get_or-set_other cuts n i v 0 ne) ∙ e))
     ])
     (λ h. elim (with_is (cut cuts n) v z h) [
-      | inl q ↦ cut_has (set cuts n v) (suc n) n z (omega arith) (get_or-set_same cuts n v 0 l ∙ sym q)
-      | inr o ↦ let (i, li, e) = cut_is cuts n z o in cut_has (set cuts n v) (suc n) i z (omega arith) (get_or-set_other cuts n i v 0 (λ q. omega arith) ∙ e)
+      | inl q ↦ cut_has (slice_set cuts n v) (suc n) n z (omega arith) (get_or-set_same cuts n v 0 l ∙ sym q)
+      | inr o ↦ let (i, li, e) = cut_is cuts n z o in cut_has (slice_set cuts n v) (suc n) i z (omega arith) (get_or-set_other cuts n i v 0 (λ q. omega arith) ∙ e)
     ]))
 
 module _ (cuts : List ℕ) (n : ℕ) (rises : (i j : ℕ) → i < j → j < n → at cuts i < at cuts j) where

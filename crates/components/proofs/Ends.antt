@@ -1,5 +1,5 @@
 -- The start and the end of the search.
-use Rattle.std.proofs.Common.{◌≡◌, ℕ, ◌<◌, ◌≤◌, Bool, true, false, ◌&&◌, eqb, ltb, List, refl, ap, ◌∙◌, arith, ltb-true}
+use Rattle.std.proofs.Common.{◌≡◌, ℕ, ◌<◌, ◌≤◌, Bool, true, false, ◌&&◌, ◌==◌, nat_lt, refl, ap, ◌∙◌, arith, ltb-true}
 use native.Mathlib.Decide.{ℕ_discrete}
 use Rattle.theory.specs.Counts.{count}
 use Rattle.theory.specs.Reach.{Along}
@@ -13,11 +13,10 @@ use Rattle.theory.proofs.Walks.{reach_map}
 use Rattle.matching.specs.Tables.{at, filled}
 use Rattle.matching.proofs.Tables.{none_filled, filled_set}
 use Rattle.matching.proofs.Shifts.{free_spare, held_tight}
-use Rattle.components.specs.declared.stack.Heights.{Heights}
-use Rattle.components.specs.Walks.{Setting, FullMatching, Tables, tables, Fit, edge, passed, cut, Free, loose, Walked, empty_at}
+use Rattle.components.specs.Walks.{Heights, Setting, FullMatching, Tables, Fit, edge, passed, cut, Free, loose, Walked, empty_at}
 use Rattle.components.specs.Steps.{Pushed}
 use Rattle.components.proofs.Cuts.{cut_is}
-use Rattle.components.proofs.Walks.{walked_pushes}
+use Rattle.components.proofs.Walks.{idle_top, walked_pushes}
 use Rattle.components.proofs.Follows.{retabled}
 
 -- nothing was seen
@@ -59,29 +58,27 @@ walked_starts g t few fit hi hl hc = record {
     undone a l e = clash e (none_filled t.labels a (hl a l))
 
     unpassed : (a b : ℕ) → a < g.jobs → passed g t.cursors a b ≡ true → ⊥
-    unpassed a b l e = omega (arith, hc a l, ltb-true (at g.places b) (at t.cursors a) (and_right (edge g a b) _ (and_right (ltb b g.jobs) _ e)))
+    unpassed a b l e = omega (arith, hc a l, ltb-true (at g.places b) (at t.cursors a) (and_right (edge g a b) _ (and_right (nat_lt b g.jobs) _ e)))
 
 -- a root comes on the empty stack
-module _ (g : Setting) (t : Tables) (next root : ℕ) (k : Walked g t (empty_at next)) (lr : root < g.jobs) (index' nodes' cuts' path' : List ℕ) (r : Heights)
-    (p : Pushed (empty_at next) root t.index t.nodes t.cuts t.path index' nodes' cuts' path' r) where
-  pub walked_root : filled t.index root ≡ false → Walked g (tables t.cursors index' t.labels nodes' cuts' path') r
-  walked_root e =
-      retabled g t.cursors t.labels p.index_is p.nodes_is p.cuts_is p.path_is p.heights (walked_pushes g t (empty_at next) k root lr e (λ d q. absurd (omega arith)))
+module _ (g : Setting) (t : Tables) (s : Heights) (root : ℕ) (k : Walked g t s) (idle : s.depth ≡ 0) (lr : root < g.jobs) (t' : Tables) (s' : Heights) (p : Pushed t s root t' s') where
+  pub walked_root : filled t.index root ≡ false → Walked g t' s'
+  walked_root e = retabled g p.tables p.heights (walked_pushes g t s k root lr e (λ d q. absurd (omega arith)))
 
-  seen_now : filled index' ≡ with (filled t.index) root
-  seen_now = ap {B = ℕ → Bool} (λ (i : List ℕ). filled i) p.index_is ∙ filled_set t.index root 0 (omega (arith, k.fit.index)) (λ z. omega arith)
+  seen_now : filled t'.index ≡ with (filled t.index) root
+  seen_now = ap {B = ℕ → Bool} (λ (v : Tables). filled v.index) p.tables ∙ filled_set t.index root s.top (omega (arith, k.fit.index)) (λ z. omega (arith, idle_top g t s k idle))
 
-  pub root_seen : filled index' root ≡ true
+  pub root_seen : filled t'.index root ≡ true
   root_seen = ap (λ (A : ℕ → Bool). A root) seen_now ∙ with_same (filled t.index) root
 
-  pub root_keeps : (a : ℕ) → filled t.index a ≡ true → filled index' a ≡ true
+  pub root_keeps : (a : ℕ) → filled t.index a ≡ true → filled t'.index a ≡ true
   root_keeps a h = ap (λ (A : ℕ → Bool). A a) seen_now ∙ with_has (filled t.index) root a h
 
 -- all were seen
 module _ (g : Setting) (f : FullMatching g) where
   -- a place is free exactly if it is spare
-  spare_all : (p : ℕ) → count (λ k. filled g.places k && eqb (at g.places k) p) g.jobs ≡ count (λ k. true && eqb (at g.places k) p) g.jobs
-  spare_all p = count_same _ _ g.jobs (λ k l. ap (λ (b : Bool). b && eqb (at g.places k) p) (f.every k l))
+  spare_all : (p : ℕ) → count (λ k. filled g.places k && (at g.places k == p)) g.jobs ≡ count (λ k. true && (at g.places k == p)) g.jobs
+  spare_all p = count_same _ _ g.jobs (λ k l. ap (λ (b : Bool). b && (at g.places k == p)) (f.every k l))
 
   free_open : (a : ℕ) → Free g a → Open (single g.jobs g.width g.holds) all (at g.places) a
   free_open a (p, lp, h, e) = record {

@@ -1,5 +1,5 @@
 -- The steps of a path-based search for components, in tables.
-use Rattle.std.proofs.Common.{◌≡◌, ℕ, zero, suc, ◌+◌, ◌-◌, ◌<◌, ◌≤◌, Bool, true, false, eqb, ◌≢◌, ◌⊎◌, List, length, set, sym, refl, ap, ◌∙◌, subst, subst₂, add-one, arith, length-set, get_or-set_other, get_or-set_same}
+use Rattle.std.proofs.Common.{◌≡◌, ℕ, zero, suc, ◌+◌, ◌-◌, ◌<◌, ◌≤◌, Bool, true, false, ◌==◌, ◌≢◌, ◌⊎◌, List, length, slice_set, sym, refl, ap, ◌∙◌, subst, subst₂, add-one, arith, length-set, get_or-set_other, get_or-set_same}
 use native.Mathlib.Decide.{ℕ_discrete, dec_lt}
 use Rattle.theory.specs.Counts.{count}
 use Rattle.theory.specs.Reach.{Along}
@@ -11,9 +11,8 @@ use Rattle.theory.proofs.Moves.{count_with}
 use Rattle.theory.proofs.Trails.{trail_pushes, trail_follows, trail_joins, trail_pops, none_on}
 use Rattle.matching.specs.Tables.{at, filled}
 use Rattle.matching.proofs.Tables.{at_set, filled_set}
-use Rattle.components.specs.declared.stack.Heights.{Heights}
-use Rattle.components.specs.Walks.{Setting, Tables, tables, edge, passed, cut, loose, Walked, Readable}
-use Rattle.components.specs.Steps.{pushed, Collapsed}
+use Rattle.components.specs.Walks.{Heights, Setting, Tables, tables, edge, passed, cut, loose, Walked}
+use Rattle.components.specs.Steps.{HasRoom, pushed, on_top, Collapsed}
 use Rattle.components.proofs.Cuts.{cut_has, cut_is, cut_push, collapsed_low, collapsed_high, last_not}
 
 -- rising numbers are at least their positions
@@ -74,15 +73,6 @@ module _ (g : Setting) (t : Tables) (s : Heights) (k : Walked g t s) where
   pub last_job : 0 < s.depth → at t.nodes last < m
   last_job p = k.trail.on_job last (last_on p)
 
-  pub readable : 0 < s.depth → Readable t s
-  readable p = record {
-    few = (omega (arith, depth_few, tops, k.few), omega (arith, cuts_few, tops, k.few));
-    path = omega (arith, depth_few, tops, k.fit.path);
-    nodes = omega (arith, last_on p, tops, k.fit.nodes);
-    cursors = omega (arith, last_job p, k.fit.cursors);
-    cuts = (cuts_some (omega (arith, last_on p)), omega (arith, cuts_few, tops, k.fit.cuts));
-  }
-
   -- the last of the path is spent, and not the first of its segment
   pub walked_pops : 0 < s.depth → Spent R past (at t.nodes last) → at t.cuts (s.cuts - 1) ≢ last → Walked g t (heights s.top s.cuts (s.depth - 1) s.next)
   walked_pops p e ne =
@@ -96,6 +86,10 @@ module _ (g : Setting) (t : Tables) (s : Heights) (k : Walked g t s) where
         few = k.few;
         fit = k.fit;
       }
+
+  -- the same at a position that is the last of the path
+  pub pops_at : (x : ℕ) → last ≡ x → 0 < s.depth → Spent R past (at t.nodes x) → at t.cuts (s.cuts - 1) ≢ x → Walked g t (heights s.top s.cuts (s.depth - 1) s.next)
+  pops_at x e p = subst (λ (y : ℕ). Spent R past (at t.nodes y) → at t.cuts (s.cuts - 1) ≢ y → Walked g t (heights s.top s.cuts (s.depth - 1) s.next)) e (walked_pops p)
 
   -- a step to a job on the stack joins segments
   pub walked_joins : (xb n : ℕ) → 0 < s.depth → xb < s.top → R (at t.nodes last) (at t.nodes xb) → Collapsed t.cuts s.cuts xb n → Walked g t (heights s.top n s.depth s.next)
@@ -127,9 +121,6 @@ module _ (g : Setting) (t : Tables) (s : Heights) (k : Walked g t s) where
 
   -- a new job comes on the stack
   module _ (w : ℕ) (lw : w < m) (sw : filled t.index w ≡ false) where
-    abbrev pub on_top : Tables
-    on_top = tables t.cursors (set t.index w s.top) t.labels (set t.nodes s.top w) (set t.cuts s.cuts s.top) (set t.path s.depth s.top)
-
     li : w < length t.index
     li = omega (arith, k.fit.index)
 
@@ -142,25 +133,28 @@ module _ (g : Setting) (t : Tables) (s : Heights) (k : Walked g t s) where
     ld : s.depth < length t.path
     ld = omega (arith, room w lw sw, depth_few, k.fit.path)
 
+    pub has_room : HasRoom t s
+    has_room = (lt, omega (arith, room w lw sw, k.few), ln, ld)
+
     nt : s.top ≢ 65535
     nt z = omega (arith, room w lw sw, k.few)
 
-    seen_now : filled (set t.index w s.top) ≡ with (filled t.index) w
+    seen_now : filled (slice_set t.index w s.top) ≡ with (filled t.index) w
     seen_now = filled_set t.index w s.top li nt
 
     -- a job that is done is not w
     not_done : (a : ℕ) → a < m → filled t.labels a ≡ true → a ≢ w
     not_done a l e q = clash (ap (filled t.index) (sym q) ∙ k.trail.done_seen a l e) sw
 
-    loose_kept : (a : ℕ) → a < m → filled t.labels a ≡ true → loose (set t.index w s.top) a ≡ loose t.index a
-    loose_kept a l e = ap (λ (x : ℕ). eqb x 1) (get_or-set_other t.index w a s.top 0 (not_done a l e))
+    loose_kept : (a : ℕ) → a < m → filled t.labels a ≡ true → loose (slice_set t.index w s.top) a ≡ loose t.index a
+    loose_kept a l e = ap (λ (x : ℕ). x == 1) (get_or-set_other t.index w a s.top 0 (not_done a l e))
 
-    pub walked_pushes : ((d : ℕ) → suc d ≡ s.depth → R (at t.nodes (at t.path d)) w) → Walked g on_top (pushed s)
+    pub walked_pushes : ((d : ℕ) → suc d ≡ s.depth → R (at t.nodes (at t.path d)) w) → Walked g (on_top t s w) (pushed s)
     walked_pushes r = record {
       trail = simp add-one
-          (subst₂ (λ (sn : ℕ → Bool) (ix : ℕ → ℕ). Trail R past m sn (filled t.labels) (at t.labels) s.next ix (at (set t.nodes s.top w)) (suc s.top) (cut (set t.cuts s.cuts s.top) (suc s.cuts)) (at (set t.path s.depth s.top)) (suc s.depth))
+          (subst₂ (λ (sn : ℕ → Bool) (ix : ℕ → ℕ). Trail R past m sn (filled t.labels) (at t.labels) s.next ix (at (slice_set t.nodes s.top w)) (suc s.top) (cut (slice_set t.cuts s.cuts s.top) (suc s.cuts)) (at (slice_set t.path s.depth s.top)) (suc s.depth))
           (sym seen_now) (sym (at_set t.index w s.top li))
-          (subst₂ (λ (nd : ℕ → ℕ) (ct : ℕ → Bool). Trail R past m (with (filled t.index) w) (filled t.labels) (at t.labels) s.next (put (at t.index) w s.top) nd (suc s.top) ct (at (set t.path s.depth s.top)) (suc s.depth))
+          (subst₂ (λ (nd : ℕ → ℕ) (ct : ℕ → Bool). Trail R past m (with (filled t.index) w) (filled t.labels) (at t.labels) s.next (put (at t.index) w s.top) nd (suc s.top) ct (at (slice_set t.path s.depth s.top)) (suc s.depth))
           (sym (at_set t.nodes s.top w lt)) (sym (cut_push t.cuts s.cuts s.top ln))
           (subst (λ (pt : ℕ → ℕ). Trail R past m (with (filled t.index) w) (filled t.labels) (at t.labels) s.next (put (at t.index) w s.top) (put (at t.nodes) s.top w) (suc s.top) (with (cut t.cuts s.cuts) s.top) pt (suc s.depth))
           (sym (at_set t.path s.depth s.top ld))
@@ -175,7 +169,7 @@ module _ (g : Setting) (t : Tables) (s : Heights) (k : Walked g t s) where
       rises = λ i j l h. elim (ℕ_discrete j s.cuts) [
         | yes z ↦
             let (x, lx, q) = k.trail.cut_on (at t.cuts i) (cut_has t.cuts s.cuts i (at t.cuts i) (omega arith) refl) in
-            omega (arith, get_or-set_other t.cuts s.cuts i s.top 0 (λ y. omega arith), get_or-set_same t.cuts s.cuts s.top 0 ln, ap (at (set t.cuts s.cuts s.top)) z, k.trail.path_below x lx, q)
+            omega (arith, get_or-set_other t.cuts s.cuts i s.top 0 (λ y. omega arith), get_or-set_same t.cuts s.cuts s.top 0 ln, ap (at (slice_set t.cuts s.cuts s.top)) z, k.trail.path_below x lx, q)
         | no nz ↦ omega (arith, get_or-set_other t.cuts s.cuts i s.top 0 (λ y. omega arith), get_or-set_other t.cuts s.cuts j s.top 0 nz, k.rises i j l (omega arith))
       ];
       tally = omega (arith, k.tally, ap (λ (A : ℕ → Bool). count A m) seen_now, count_with (filled t.index) w m lw sw);
@@ -191,9 +185,12 @@ module _ (g : Setting) (t : Tables) (s : Heights) (k : Walked g t s) where
     }
 
 -- an empty path has empty stacks
+pub idle_top : (g : Setting) (t : Tables) (s : Heights) → Walked g t s → s.depth ≡ 0 → s.top ≡ 0
+idle_top g t s k e = none_on (Along g.jobs (edge g)) g.jobs (Passed (passed g t.cursors)) (filled t.index) (filled t.labels) (at t.labels) s.next (at t.index) (at t.nodes) s.top (cut t.cuts s.cuts) (at t.path) s.depth k.trail e
+
 pub empties : (g : Setting) (t : Tables) (s : Heights) → Walked g t s → s.depth ≡ 0 → Walked g t (heights 0 0 0 s.next)
 empties g t s k e =
-    let et : s.top ≡ 0 = none_on (Along g.jobs (edge g)) g.jobs (Passed (passed g t.cursors)) (filled t.index) (filled t.labels) (at t.labels) s.next (at t.index) (at t.nodes) s.top (cut t.cuts s.cuts) (at t.path) s.depth k.trail e in
+    let et : s.top ≡ 0 = idle_top g t s k e in
     let en : s.cuts ≡ 0 = omega (arith, cuts_few g t s k) in
     subst (λ (x : ℕ). Walked g t (heights x 0 0 s.next)) et
     (subst (λ (x : ℕ). Walked g t (heights s.top x 0 s.next)) en

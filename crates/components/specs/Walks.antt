@@ -6,7 +6,6 @@ use Rattle.theory.specs.Trail.{Trail, Loosened}
 use Rattle.theory.specs.TrailTheorems.{Passed}
 use Rattle.matching.specs.Tables.{at, filled}
 use Rattle.matching.specs.Matched.{Matched}
-use Rattle.components.specs.declared.stack.Heights.{Heights}
 
 -- jobs with their lists, and a matching in two tables
 pub record Setting : Type 0 where
@@ -39,6 +38,13 @@ pub record Tables : Type 0 where
 abbrev pub tables : List ℕ → List ℕ → List ℕ → List ℕ → List ℕ → List ℕ → Tables
 tables cursors index labels nodes cuts path =
     record { cursors = cursors; index = index; labels = labels; nodes = nodes; cuts = cuts; path = path }
+
+-- how high the stacks stand, and the number of the next component
+pub record Heights : Type 0 where
+  pub top : ℕ
+  pub cuts : ℕ
+  pub depth : ℕ
+  pub next : ℕ
 
 -- each has room for m numbers
 pub record Fit (m : ℕ) (t : Tables) : Type 0 where
@@ -83,14 +89,6 @@ pub record Walked (g : Setting) (t : Tables) (s : Heights) : Type 0 where
   pub tally : s.next + s.top ≤ count (filled t.index) g.jobs
   pub few : g.jobs ≤ 65535
   pub fit : Fit g.jobs t
-
--- the tables reach as far as a turn of the search reads them
-pub record Readable (t : Tables) (s : Heights) : Type 0 where
-  pub few : (s.depth ≤ 65535) × (s.cuts ≤ 65535)
-  pub path : s.depth ≤ length t.path
-  pub nodes : at t.path (s.depth - 1) < length t.nodes
-  pub cursors : at t.nodes (at t.path (s.depth - 1)) < length t.cursors
-  pub cuts : (0 < s.cuts) × (s.cuts ≤ length t.cuts)
 
 -- what is left to do: each place of a list that was not passed may push a job, which is popped later
 abbrev pub effort : ℕ → List ℕ → ℕ → ℕ

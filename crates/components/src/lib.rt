@@ -1,8 +1,8 @@
 // Strongly connected components of a full matching: which jobs can pass places on among themselves, and which reach a free place.
 #![tactic(auto)]
 
-mod close;
+mod graph;
 mod stack;
 mod walk;
 
-pub use walk::components;
+pub use walk::{Scratch, components};

@@ -1,90 +1,87 @@
-// The stacks of the search.
-ghost use Rattle.std.specs.Prelude.{◌≡◌, ℕ, ◌+◌, ◌<◌, ◌≤◌, length};
+// A stack of numbers in a lent table.
+ghost use Rattle.std.specs.Prelude.{◌≡◌, ℕ, ◌+◌, ◌-◌, ◌<◌, ◌≤◌, MatchOption, length, slice_set};
 ghost use Rattle.matching.specs.Tables.{at};
-ghost use Rattle.components.specs.Steps.{Collapsed, Followed, Pushed};
+ghost use Rattle.components.specs.Steps.{Collapsed};
 
-use matching::NONE;
-
-// How high the stacks stand, and the number of the next component.
-#[derive(Clone, Copy)]
-pub struct Heights {
-    pub top: usize,
-    pub cuts: usize,
-    pub depth: usize,
-    pub next: u16,
+// The first `len` numbers of a table that is lent.
+#[derive(Drop)]
+pub struct Stack<'a> {
+    slots: &'a mut [u16],
+    len: usize,
+    ghost fits: { len ≤ length slots.now },
 }
 
-// Puts a job on the stack, in a segment of its own, and on the path.
-pub fn push(
-    index: &mut [u16],
-    nodes: &mut [u16],
-    cuts: &mut [u16],
-    path: &mut [u16],
-    s: Heights,
-    job: u16,
-) -> Heights
-    requires job { job < length index.old }
-    requires nodes { (s.top < length nodes.old) × (s.top < 65535) }
-    requires cuts { (s.cuts < length cuts.old) × (s.cuts ≤ s.top) }
-    requires path { (s.depth < length path.old) × (s.depth ≤ s.top) }
-    ensures { Pushed s job index.old nodes.old cuts.old path.old index.new nodes.new cuts.new path.new result }
-{
-    index[job as usize] = s.top as u16;
-    nodes[s.top] = job;
-    cuts[s.cuts] = s.top as u16;
-    path[s.depth] = s.top as u16;
-    Heights {
-        top: s.top + 1,
-        cuts: s.cuts + 1,
-        depth: s.depth + 1,
-        next: s.next,
+impl<'a> Stack<'a> {
+    pub fn new(slots: &'a mut [u16]) -> Stack<'a>
+        ensures slots { result.slots.now ≡ slots.old }
+        ensures empty { result.len ≡ 0 }
+    {
+        Stack { slots, len: 0 }
     }
-}
 
-// How many of the first `n` cuts, which rise, are at most `low`.
-fn collapse(cuts: &[u16], n: usize, low: u16) -> usize
-    requires fits { n ≤ length cuts.now }
-    requires rises { (i j : ℕ) → i < j → j < n → at cuts.now i < at cuts.now j }
-    ensures { Collapsed cuts.now n low result }
-{
-    let mut left = n;
-    while left > 0 {
-        if cuts[left - 1] <= low {
-            return left;
+    pub fn len(&self) -> usize
+        ensures { result ≡ self.now.len }
+    {
+        self.len
+    }
+
+    // The number at a position.
+    pub fn at(&self, position: u16) -> u16
+        requires { position < self.now.len }
+        ensures { result ≡ at self.now.slots.now position }
+    {
+        self.slots[position as usize]
+    }
+
+    // The numbers from a position on.
+    pub fn tail(&self, from: u16) -> &[u16]
+        requires { from ≤ self.now.len }
+        ensures len { length result.now ≡ self.now.len - from }
+        ensures numbers { (x : ℕ) → x < length result.now → at result.now x ≡ at self.now.slots.now (from + x) }
+    {
+        &self.slots[from as usize..self.len]
+    }
+
+    pub fn last(&self) -> Option<u16>
+        ensures { MatchOption result (self.now.len ≡ 0) (λ x. (0 < self.now.len) × (at self.now.slots.now (self.now.len - 1) ≡ x)) }
+    {
+        self.slots[..self.len].last().copied()
+    }
+
+    pub fn push(&mut self, x: u16)
+        requires { self.old.len < length self.old.slots.now }
+        ensures slots { self.new.slots.now ≡ slice_set self.old.slots.now self.old.len x }
+        ensures len { self.new.len ≡ self.old.len + 1 }
+    {
+        self.slots[self.len] = x;
+        self.len += 1;
+    }
+
+    pub fn pop(&mut self)
+        requires { 0 < self.old.len }
+        ensures slots { self.new.slots.now ≡ self.old.slots.now }
+        ensures len { self.new.len ≡ self.old.len - 1 }
+    {
+        self.len -= 1;
+    }
+
+    // Takes off the numbers from a position on.
+    pub fn truncate(&mut self, from: u16)
+        requires { from ≤ self.old.len }
+        ensures slots { self.new.slots.now ≡ self.old.slots.now }
+        ensures len { self.new.len ≡ from }
+    {
+        self.len = from as usize;
+    }
+
+    // Takes off the numbers above `low`, where they rise. From the top, so that only these and one more are looked at.
+    pub fn pop_above(&mut self, low: u16)
+        requires { (i j : ℕ) → i < j → j < self.old.len → at self.old.slots.now i < at self.old.slots.now j }
+        ensures slots { self.new.slots.now ≡ self.old.slots.now }
+        ensures collapsed { Collapsed self.old.slots.now self.old.len low self.new.len }
+    {
+        while self.last().is_some_and(|x| x > low) {
+            self.pop();
         }
-        left -= 1;
-    }
-    0
-}
-
-// Follows a step to a job.
-pub fn follow(
-    index: &mut [u16],
-    labels: &[u16],
-    nodes: &mut [u16],
-    cuts: &mut [u16],
-    path: &mut [u16],
-    s: Heights,
-    job: u16,
-) -> Heights
-    requires job { (job < length index.old) × (job < length labels.now) }
-    requires nodes { (at index.old job ≡ 65535 → s.top < length nodes.old) × (at index.old job ≡ 65535 → s.top < 65535) }
-    requires cuts { (at index.old job ≡ 65535 → s.cuts < length cuts.old) × (s.cuts ≤ length cuts.old) × (s.cuts ≤ s.top) }
-    requires path { (at index.old job ≡ 65535 → s.depth < length path.old) × (s.depth ≤ s.top) }
-    requires rises { (i j : ℕ) → i < j → j < s.cuts → at cuts.old i < at cuts.old j }
-    ensures { Followed s job index.old labels.now nodes.old cuts.old path.old index.new nodes.new cuts.new path.new result }
-{
-    let position = index[job as usize];
-    if position == NONE {
-        return push(index, nodes, cuts, path, s, job);
-    }
-    if labels[job as usize] != NONE {
-        return s;
-    }
-    Heights {
-        top: s.top,
-        cuts: collapse(cuts, s.cuts, position),
-        depth: s.depth,
-        next: s.next,
     }
 }

@@ -14,6 +14,7 @@ fn carry<L: PlaceSet>(lists: &mut [L], cut: Cut)
     if job >= lists.len() {
         return;
     }
+    // By the index: after a slice's `get_mut` a proof knows the length alone, and no element.
     match cut.action {
         Action::Strike => lists[job].strike(cut.place),
         Action::Fix => lists[job].fix(cut.place),
@@ -26,7 +27,7 @@ pub fn write_current<L: PlaceSet + Copy>(opened: &[L], cuts: &[Cut], lists: &mut
     ensures { family L.has lists.new ≡ current (family L.has opened.now) cuts.now }
 {
     lists.copy_from_slice(opened);
-    for cut in cuts {
-        carry(lists, *cut);
+    for &cut in cuts {
+        carry(lists, cut);
     }
 }

@@ -1,8 +1,10 @@
 -- Counts and the front of a table, one number further.
-use Rattle.std.proofs.Common.{◌≡◌, ℕ, ◌+◌, ◌<◌, Bool, true, false, not, eqb, List, [], ◌∷◌, ◌++◌, length, take, drop, set, sym, refl, ap, ◌∙◌, inl, inr, add-one, arith}
+use Rattle.std.proofs.Common.{filter, count_by, zero, suc, ◌≤◌, ◌==◌, if◌then◌else◌, take_all, ◌≡◌, ℕ, ◌+◌, ◌<◌, Bool, true, false, not, List, [], ◌∷◌, ◌++◌, length, take, drop, set, sym, refl, ap, ◌∙◌, inl, inr, add-one, arith}
+use Rattle.std.proofs.lemmas.List.Filters.{length-filter_more}
+use Rattle.std.proofs.lemmas.List.Sums.{length-filter}
 use Rattle.std.proofs.lemmas.List.{take_more_set, drop-set-lt, drop-drop}
 use Rattle.theory.specs.Counts.{bit, sum, count}
-use Rattle.theory.proofs.Sums.{cases, count_pos}
+use Rattle.theory.proofs.Sums.{cases, count_pos, count_same}
 use Rattle.matching.specs.Tables.{at, filled}
 
 pub count_none : (t : ℕ → Bool) → count t 0 ≡ 0
@@ -13,9 +15,26 @@ pub count_more : (t : ℕ → Bool) (i : ℕ) → count t (i + 1) ≡ count t i 
 unfolding sum
 count_more t i = rw add-one
 
--- one more slot
-pub missing_more : (xs : List ℕ) (i : ℕ) → count (λ k. not (filled xs k)) (i + 1) ≡ count (λ k. not (filled xs k)) i + bit (eqb (at xs i) 65535)
-missing_more xs i = count_more (λ k. not (filled xs k)) i ∙ ap (λ b. count (λ k. not (filled xs k)) i + bit b) (twice (eqb (at xs i) 65535))
+-- how many numbers of a list pass a test, place by place
+count_passing : (f : ℕ → Bool) (xs : List ℕ) (i : ℕ) → i ≤ length xs → length (filter f (take i xs)) ≡ count (λ k. f (at xs k)) i
+count_passing f xs zero l = sym (count_none (λ k. f (at xs k)))
+count_passing f xs (suc i) l =
+    let next : suc i ≡ i + 1 = omega arith in
+    ap (λ n. length (filter f (take n xs))) next ∙ length-filter_more f xs i 0 (omega arith)
+    ∙ ap (λ n. n + (if f (at xs i) then 1 else 0)) (count_passing f xs i (omega arith))
+    ∙ ap (λ n. count (λ k. f (at xs k)) i + n) (one (f (at xs i)))
+    ∙ sym (count_more (λ k. f (at xs k)) i) ∙ ap (count (λ k. f (at xs k))) (sym next)
+  where
+    one : (b : Bool) → (if b then 1 else 0) ≡ bit b
+    one true = refl
+    one false = refl
+
+-- how many slots have no number
+pub missing : (xs : List ℕ) → count_by (λ x. x == 65535) xs ≡ count (λ k. not (filled xs k)) (length xs)
+missing xs =
+    sym (length-filter (λ x. x == 65535) xs) ∙ ap (λ ys. length (filter (λ x. x == 65535) ys)) (sym (take_all (length xs) xs (omega arith)))
+    ∙ count_passing (λ x. x == 65535) xs (length xs) (omega arith)
+    ∙ count_same (λ k. at xs k == 65535) (λ k. not (filled xs k)) (length xs) (λ k l. sym (twice (at xs k == 65535)))
   where
     twice : (b : Bool) → not (not b) ≡ b
     twice true = refl

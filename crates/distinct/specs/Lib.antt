@@ -1,3 +1,3 @@
 pub mod Groups
 pub mod Scopes
-pub mod Spreads
+pub mod Divisions

@@ -1,12 +1,8 @@
--- Distinct rules, and what was found of a full matching of a scope.
-use Rattle.std.specs.Prelude.{◌≡◌, ℕ, zero, suc, ◌+◌, ◌-◌, ◌*◌, ◌<◌, ◌≤◌, Bool, cond, ◌&&◌, ◌||◌, ◌≢◌, List, [], ◌∷◌, ◌++◌, length, ◌==◌, nat_le, nat_lt, slice_index}
+-- The places of a scope, and what was found of a full matching of it.
+use Rattle.std.specs.Prelude.{◌≡◌, ℕ, zero, suc, ◌<◌, ◌≤◌, Bool, ◌&&◌, ◌||◌, ◌≢◌, List, [], ◌∷◌, ◌++◌, length, ◌==◌, slice_index, if◌then◌else◌}
 use Rattle.places.specs.Families.{Family}
 use Rattle.matching.specs.Tables.{at}
 use Rattle.components.specs.Walks.{loose}
-
--- the rule of these jobs may stand for n jobs
-abbrev pub lawful : ℕ → ℕ → ℕ → ℕ → Bool
-lawful first step m n = nat_le 1 step && (nat_le 1 m && nat_lt (first + (m - 1) * step) n)
 
 -- the places of the job at position k of a scope
 abbrev pub scoped : List ℕ → Family → Family
@@ -15,7 +11,7 @@ scoped scope f k p = f (slice_index scope k) p
 -- the jobs at the positions below n that pass a test of positions, in order
 abbrev pub chosen : List ℕ → (ℕ → Bool) → ℕ → List ℕ
 chosen scope test zero = []
-chosen scope test (suc n) = chosen scope test n ++ cond (test n) (slice_index scope n ∷ []) []
+chosen scope test (suc n) = chosen scope test n ++ (if test n then slice_index scope n ∷ [] else [])
 
 -- from the lists at the first n positions of a scope the places are gone that fail the test
 pub record Sifted (scope : List ℕ) (n : ℕ) (ok : ℕ → ℕ → Bool) (before after : Family) : Type 0 where

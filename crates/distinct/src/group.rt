@@ -1,6 +1,5 @@
 // The group of a progression's jobs.
-ghost use Rattle.std.specs.Prelude.{◌≡◌, ℕ, ◌+◌, ◌*◌, ◌^◌, ◌<◌, ◌≤◌, not, length, take, drop, ◌==◌, slice_set};
-ghost use Rattle.theory.specs.Counts.{bit, count};
+ghost use Rattle.std.specs.Prelude.{◌≡◌, ℕ, ◌+◌, ◌*◌, ◌^◌, ◌<◌, ◌≤◌, length, take, drop, count_by, ◌==◌, slice_set};
 ghost use Rattle.matching.specs.Tables.{filled};
 ghost use Rattle.places.specs.Families.{family};
 ghost use Rattle.rules.specs.Narrowing.{Scope};
@@ -8,35 +7,24 @@ ghost use Rattle.rules.specs.Progressions.{jobs_of};
 ghost use Rattle.distinct.specs.Groups.{GroupTold};
 ghost use Rattle.distinct.specs.Scopes.{chosen};
 
-use crate::scope::{Scoped, job_at};
+use crate::scope::Scoped;
 use matching::{NONE, match_jobs};
 use places::PlaceSet;
 use rules::Progression;
 
-// How many jobs a group has, and how many more they are than the places in their lists.
+// How many jobs a group has, and how many more they are than the places in their lists. The jobs stand in a lent table, so `count` tells
+// how much of it is the group's.
 #[derive(Clone, Copy)]
 pub struct Deficiency {
     pub count: usize,
     pub deficiency: usize,
 }
 
-// One more than `n` for a slot without a number.
-fn tally(n: usize, slot: u16) -> usize
-    requires { n + 1 < 2 ^ 64 }
-    ensures { result ≡ n + bit (slot == 65535) }
-{
-    if slot == NONE { n + 1 } else { n }
-}
-
 // How many slots have no number.
 pub fn count_none(slots: &[u16]) -> usize
-    ensures { result ≡ count (λ k. not (filled slots.now k)) (length slots.now) }
+    ensures { result ≡ count_by (λ slot. slot == 65535) slots.now }
 {
-    let mut n = 0;
-    for slot in slots {
-        n = tally(n, *slot);
-    }
-    n
+    slots.iter().filter(|slot| **slot == NONE).count()
 }
 
 // Writes a job to the table, and gives the number of jobs in it.
@@ -59,16 +47,18 @@ fn list_marked(jobs: &Progression, marks: &[u16], table: &mut [u16]) -> usize
     ensures rest { drop result table.new ≡ drop result table.old }
     ensures len { result ≤ length table.old }
 {
+    // `len` is counted by hand: a chain would write the table from its closure, and of that a proof knows nothing.
     let mut len = 0;
-    for i in 0..marks.len() {
-        if marks[i] != NONE {
-            len = append(table, len, job_at(jobs, i) as u16);
+    for (i, mark) in marks.iter().enumerate() {
+        if *mark != NONE {
+            len = append(table, len, jobs.job_at(i) as u16);
         }
     }
     len
 }
 
-// Writes the jobs of the group, rising, to the front of `table`, and tells how many they are and their deficiency.
+// Writes the jobs of the group, rising, to the front of `table`, and tells how many they are and their deficiency. That the jobs lie
+// within the lists is asked here as in the calls that write lists: a type that held lists to be written would be taken apart in each.
 pub fn deficient_group<L: PlaceSet>(
     jobs: &Progression,
     lists: &[L],
@@ -77,13 +67,14 @@ pub fn deficient_group<L: PlaceSet>(
 ) -> Deficiency
     requires few { length lists.now ≤ 256 }
     requires scope { Scope (length lists.now) (jobs_of jobs.now) }
-    requires memory { 7 * (length lists.now + L.limit) ≤ length numbers.old }
+    requires memory { 7 * (length lists.now + L.LIMIT) ≤ length numbers.old }
     requires table { length lists.now ≤ length table.old }
-    ensures { GroupTold L.limit (family L.has lists.now) (jobs_of jobs.now) table.old table.new result.count result.deficiency }
+    ensures { GroupTold L.LIMIT (family L.has lists.now) (jobs_of jobs.now) table.old table.new result.count result.deficiency }
 {
     let m = jobs.count as usize;
+    // Split here and in the other call that matches: a function that gave the parts back would have to say how each lies in the numbers.
     let (places, rest) = numbers.split_at_mut(m);
-    let (holders, rest) = rest.split_at_mut(L::width_limit());
+    let (holders, rest) = rest.split_at_mut(L::LIMIT);
     let (parents, rest) = rest.split_at_mut(m);
     let (slots, _) = rest.split_at_mut(m);
     match_jobs(

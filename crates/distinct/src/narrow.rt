@@ -9,12 +9,13 @@ ghost use Rattle.distinct.specs.Scopes.{scoped};
 use crate::group::count_none;
 use crate::scope::Scoped;
 use crate::sift::{Division, empty_all, sift_all};
-use components::components;
+use components::{Scratch, components};
 use matching::{Matching, match_jobs};
 use places::PlaceSet;
 use rules::Progression;
 
-// Leaves in the lists of the jobs the places that some full matching gives them, by one full matching.
+// Leaves in the lists of the jobs the places that some full matching gives them, by one full matching. The tables come one by one: a
+// `Matching` holds the lists, which the sifting writes.
 fn narrow_full<'x, L: PlaceSet + Copy>(
     jobs: &Progression,
     lists: &mut [L],
@@ -27,7 +28,7 @@ fn narrow_full<'x, L: PlaceSet + Copy>(
     requires few { jobs.now.count ≤ 256 }
     requires scope { Scope (length lists.old) (jobs_of jobs.now) }
     requires tables { (length places.now ≡ jobs.now.count) × (length cursors.old ≡ jobs.now.count) × (length marks.old ≡ jobs.now.count) × (4 * jobs.now.count ≤ length numbers.old) }
-    requires full { FullMatching (setting jobs.now.count L.limit (scoped (jobs_of jobs.now) (family L.has lists.old)) places.now holders.now) }
+    requires full { FullMatching (setting jobs.now.count L.LIMIT (scoped (jobs_of jobs.now) (family L.has lists.old)) places.now holders.now) }
     ensures { Narrowed (jobs_of jobs.now) no_place_twice (family L.has lists.old) (family L.has lists.new) }
 {
     let m = jobs.count as usize;
@@ -36,14 +37,19 @@ fn narrow_full<'x, L: PlaceSet + Copy>(
     let (cuts, rest) = rest.split_at_mut(m);
     let (path, _) = rest.split_at_mut(m);
     components(
-        &Scoped { lists, jobs: *jobs },
-        &Matching { places, holders },
-        cursors,
+        &Matching {
+            jobs: &Scoped { lists, jobs: *jobs },
+            places,
+            holders,
+        },
         marks,
         labels,
-        nodes,
-        cuts,
-        path,
+        Scratch {
+            cursors,
+            nodes,
+            cuts,
+            path,
+        },
     );
     sift_all(
         jobs,
@@ -61,12 +67,13 @@ fn narrow_full<'x, L: PlaceSet + Copy>(
 pub fn narrow_jobs<L: PlaceSet + Copy>(jobs: &Progression, lists: &mut [L], numbers: &mut [u16])
     requires few { jobs.now.count ≤ 256 }
     requires scope { Scope (length lists.old) (jobs_of jobs.now) }
-    requires memory { 7 * jobs.now.count + L.limit ≤ length numbers.old }
+    requires memory { 7 * jobs.now.count + L.LIMIT ≤ length numbers.old }
     ensures { Narrowed (jobs_of jobs.now) no_place_twice (family L.has lists.old) (family L.has lists.new) }
 {
     let m = jobs.count as usize;
+    // Split here and in the other call that matches: a function that gave the parts back would have to say how each lies in the numbers.
     let (places, rest) = numbers.split_at_mut(m);
-    let (holders, rest) = rest.split_at_mut(L::width_limit());
+    let (holders, rest) = rest.split_at_mut(L::LIMIT);
     let (parents, rest) = rest.split_at_mut(m);
     let (slots, rest) = rest.split_at_mut(m);
     match_jobs(

@@ -8,14 +8,6 @@ use matching::Bipartite;
 use places::PlaceSet;
 use rules::Progression;
 
-// The job at position `i` of a progression.
-pub fn job_at(jobs: &Progression, i: usize) -> usize
-    requires { i < jobs.now.count }
-    ensures { result ≡ jobs.now.first + i * jobs.now.step }
-{
-    jobs.first as usize + i * jobs.step as usize
-}
-
 // A progression with the lists of a family.
 #[derive(Drop)]
 pub struct Scoped<'a, L> {
@@ -32,18 +24,18 @@ impl<'a, L> Scoped<'a, L> {
         ensures value { result ≡ slice_index (jobs_of self.now.jobs) i }
         ensures within { result < length self.now.lists.now }
     {
-        job_at(&self.jobs, i)
+        self.jobs.job_at(i)
     }
 }
 
 impl<'a, L: PlaceSet> Bipartite for Scoped<'a, L> {
-    ghost jobs = { λ s. s.jobs.count };
+    type List = L;
 
-    ghost width = { λ _. L.limit };
+    ghost jobs = { λ s. s.jobs.count };
 
     ghost holds = { λ s. scoped (jobs_of s.jobs) (family L.has s.lists.now) };
 
-    fn next_from(&self, job: usize, place: u16) -> Option<u16> {
-        self.lists[self.index(job)].next_from(place)
+    fn list(&self, job: usize) -> &L {
+        &self.lists[self.index(job)]
     }
 }

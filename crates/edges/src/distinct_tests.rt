@@ -2,14 +2,16 @@
 use distinct::Distinct;
 use places::{CarrierRow, NeedleList, PlaceSet};
 use refusals::Refusal;
-use rules::{Rule, narrow_family};
+use rules::{Progression, Rule, narrow_family};
 use std::test::Fail;
 
 // Narrows rows, at most 64 of them, by a distinct rule.
 fn narrow_rows(first: u16, step: u16, count: u16, lists: &mut [CarrierRow]) -> Result<(), Refusal> {
     let mut working = [CarrierRow(0); 64];
     let mut numbers = [0; 1024];
-    let rule = Distinct { first, step, count };
+    let rule = Distinct {
+        jobs: Progression { first, step, count },
+    };
     narrow_family(&rule, lists, &mut working, &mut numbers)
 }
 
@@ -18,16 +20,18 @@ fn narrow_chain(lists: &mut [NeedleList; 256]) -> Result<u16, Refusal> {
     let mut working = [NeedleList { places: [0; 8] }; 256];
     let mut numbers = [0; 18_432];
     let rule = Distinct {
-        first: 0,
-        step: 1,
-        count: 256,
+        jobs: Progression {
+            first: 0,
+            step: 1,
+            count: 256,
+        },
     };
     narrow_family(&rule, lists, &mut working, &mut numbers)?;
-    let mut held: u16 = 0;
-    for list in lists.iter() {
-        held = held.saturating_add(list.count());
-    }
-    Ok(held)
+    Ok(
+        lists
+            .iter()
+            .fold(0, |held: u16, list| held.saturating_add(list.count())),
+    )
 }
 
 #[test]
@@ -72,13 +76,11 @@ fn an_empty_list_empties_its_scope(rt: HostRuntime) -> Result<(), Fail> {
 #[test]
 fn a_chain_of_256_jobs(rt: HostRuntime) -> Result<(), Fail> {
     let mut lists = [NeedleList { places: [0; 8] }; 256];
-    let mut i: u16 = 0;
-    for list in lists.iter_mut() {
-        let next = i.wrapping_add(1);
+    for (i, list) in lists.iter_mut().enumerate() {
+        let place = i as u16;
         *list = NeedleList {
-            places: [i, next, 0, 0, 0, 0, 0, 0],
+            places: [place, place + 1, 0, 0, 0, 0, 0, 0],
         };
-        i = next;
     }
     assert_eq!(rt; narrow_chain(&mut lists)?, 512);
     lists[0].strike(0);
@@ -103,8 +105,8 @@ fn steps_of_two_skip_jobs(rt: HostRuntime) -> Result<(), Fail> {
     let mut lists = [CarrierRow(0b011); 5];
     lists[4] = CarrierRow(0b111);
     narrow_rows(0, 2, 3, &mut lists)?;
-    for i in 0..4 {
-        assert_eq!(rt; lists[i].0, 0b011);
+    for list in &lists[..4] {
+        assert_eq!(rt; list.0, 0b011);
     }
     assert_eq!(rt; lists[4].0, 0b100);
     assert_eq!(rt;
@@ -116,7 +118,10 @@ fn steps_of_two_skip_jobs(rt: HostRuntime) -> Result<(), Fail> {
 
 // Whether a distinct rule is lawful for 256 jobs.
 fn is_lawful(first: u16, step: u16, count: u16) -> bool {
-    Distinct { first, step, count }.is_lawful(256)
+    Distinct {
+        jobs: Progression { first, step, count },
+    }
+    .is_lawful(256)
 }
 
 #[test]

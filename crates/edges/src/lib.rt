@@ -8,14 +8,19 @@ mod settling_tests;
 
 use places::{CarrierRow, NeedleList, PlaceSet};
 use refusals::Refusal;
-use rules::{Gap, Rule, Sum, narrow_family};
+use rules::{Addition, Distance, Gap, Rule, Sum, narrow_family};
 
 // Narrows empty rows, `n` of them, by a sum of jobs 0, 1 and 2.
 pub fn narrow_empty_rows(n: usize, working: usize, numbers: usize) -> Result<(), Refusal> {
     let mut lists = [CarrierRow(0); 257];
     let mut work = [CarrierRow(0); 257];
     let mut row = [0; 2600];
-    let rule = Sum { a: 0, b: 1, c: 2 };
+    let rule = Sum {
+        a: 0,
+        b: 1,
+        c: 2,
+        by: Addition,
+    };
     narrow_family(
         &rule,
         &mut lists[0..n.min(257)],
@@ -117,12 +122,30 @@ mod tests {
         ];
         let mut work = lists;
         let mut row = [0; 16_408];
-        narrow_family(&Gap { a: 0, b: 1, c: 2 }, &mut lists, &mut work, &mut row)?;
+        narrow_family(
+            &Gap {
+                a: 0,
+                b: 1,
+                c: 2,
+                by: Distance,
+            },
+            &mut lists,
+            &mut work,
+            &mut row,
+        )?;
         assert_eq!(rt; lists[0].next_from(0), Some(5));
         assert_eq!(rt; lists[1].count(), 1);
         assert_eq!(rt; lists[2].next_from(0), Some(0));
         assert_eq!(rt; lists[2].count(), 1);
-        assert!(rt; !Gap { a: 0, b: 1, c: 1 }.is_lawful(3));
+        assert!(rt;
+            !Gap {
+                a: 0,
+                b: 1,
+                c: 1,
+                by: Distance
+            }
+            .is_lawful(3)
+        );
         Ok(())
     }
 }

@@ -1,10 +1,15 @@
 // Settling at its edges.
 use places::CarrierRow;
 use refusals::Refusal;
-use rules::Sum;
+use rules::{Addition, Sum};
 use settling::{WakeUp, settle_family};
 
-const SUM: Sum = Sum { a: 0, b: 1, c: 2 };
+const SUM: Sum = Sum {
+    a: 0,
+    b: 1,
+    c: 2,
+    by: Addition,
+};
 
 // Settles rows, at most 64 of them, with room for so many wake-ups.
 fn settle_rows(
@@ -80,7 +85,12 @@ fn the_lowest_empty_job_of_the_result(rt: HostRuntime) {
         CarrierRow(1),
         CarrierRow(0),
     ];
-    let rule = Sum { a: 3, b: 2, c: 1 };
+    let rule = Sum {
+        a: 3,
+        b: 2,
+        c: 1,
+        by: Addition,
+    };
     assert_eq!(rt; settle_rows(&[rule], &mut lists, 1), Ok(Some(4)));
     lists[1] = CarrierRow(4);
     assert_eq!(rt; settle_rows(&[rule], &mut lists, 1), Ok(Some(1)));

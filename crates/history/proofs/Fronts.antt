@@ -1,5 +1,5 @@
 -- A call looks at no more of its tables than the board holds of them; where they are shorter it is refused whatever they hold.
-use Rattle.std.proofs.Common.{◌≡◌, ℕ, ◌≤◌, Bool, true, false, not, ◌||◌, ltb, List, ◌++◌, length, take, is_some, Some, None, Option, sym, refl, ap, ◌∙◌, subst, inl, inr, arith}
+use Rattle.std.proofs.Common.{◌≡◌, ℕ, ◌≤◌, Bool, true, false, not, ◌||◌, nat_lt, List, ◌++◌, length, take, is_some, Some, None, Option, sym, refl, ap, ◌∙◌, subst, inl, inr, arith}
 use Rattle.std.proofs.lemmas.List.{length-append, take-append-le, drop-append-le}
 use Rattle.std.proofs.lemmas.Bool.{cases_Bool, or_left, or_parts}
 use Rattle.std.proofs.lemmas.Bool.Decides.{nat_tests}
@@ -23,15 +23,15 @@ pub stopped_first : (t : Bool) (rest : Option Code) → t ≡ true → then_chec
 stopped_first t rest e = ap (λ v. then_check (fails_if v 10) rest) e
 
 pub passed_first : (t : Bool) (rest : Option Code) → then_check (fails_if t 10) rest ≡ None → t ≡ false
-passed_first true rest e = let z : ◌≡◌ {A = ℕ} 0 1 = cc in absurd (omega arith)
+passed_first true rest e = absurd cc
 passed_first false rest e = refl
 
 -- checks that refuse leave nothing to lists and rules
 trial_any : {R : Type 0} (scope : R → List ℕ) (admits : R → List ℕ → Bool) (rules rules' : List R) (n : ℕ) (f f' : Family) (checks checks' : Option Code) (c : Code) (x : Said)
     → checks ≡ Some c → checks' ≡ Some c → TrialSaid scope admits rules n f checks x → TrialSaid scope admits rules' n f' checks' x
 trial_any scope admits rules rules' n f f' checks checks' c done p q h = h
-trial_any scope admits rules rules' n f f' checks checks' c yes_said p q h = let e : checks ≡ None = h.0 in let z : ◌≡◌ {A = ℕ} 0 1 = cc in absurd (omega arith)
-trial_any scope admits rules rules' n f f' checks checks' c no_said p q h = let e : checks ≡ None = h.0 in let z : ◌≡◌ {A = ℕ} 0 1 = cc in absurd (omega arith)
+trial_any scope admits rules rules' n f f' checks checks' c yes_said p q h = let e : checks ≡ None = h.0 in absurd cc
+trial_any scope admits rules rules' n f f' checks checks' c no_said p q h = let e : checks ≡ None = h.0 in absurd cc
 trial_any scope admits rules rules' n f f' checks checks' c (grouped count d) p q h = h
 trial_any scope admits rules rules' n f f' checks checks' c (refused e) p q h = q ∙ sym p ∙ h
 
@@ -40,14 +40,14 @@ group_any : (limit : ℕ) (f f' : Family) (named named' : Option Progression) (c
 group_any limit f f' named named' checks checks' c done p q h = h
 group_any limit f f' named named' checks checks' c yes_said p q h = h
 group_any limit f f' named named' checks checks' c no_said p q h = h
-group_any limit f f' named named' checks checks' c (grouped count d) p q h = let e : checks ≡ None = h.0 in let z : ◌≡◌ {A = ℕ} 0 1 = cc in absurd (omega arith)
+group_any limit f f' named named' checks checks' c (grouped count d) p q h = let e : checks ≡ None = h.0 in absurd cc
 group_any limit f f' named named' checks checks' c (refused e) p q h = q ∙ sym p ∙ h
 
 settle_any : {R : Type 0} (scope : R → List ℕ) (admits : R → List ℕ → Bool) (rules rules' : List R) (n : ℕ) (f f' : Family) (checks checks' : Option Code) (c : Code) (o : Option Code)
     → checks ≡ Some c → checks' ≡ Some c → SettleSays scope admits rules n f checks o → SettleSays scope admits rules' n f' checks' o
-settle_any scope admits rules rules' n f f' checks checks' c None p q h = let e : checks ≡ None = h.0 in let z : ◌≡◌ {A = ℕ} 0 1 = cc in absurd (omega arith)
+settle_any scope admits rules rules' n f f' checks checks' c None p q h = let e : checks ≡ None = h.0 in absurd cc
 settle_any scope admits rules rules' n f f' checks checks' c (Some e) p q (inl h) = inl (q ∙ sym p ∙ h)
-settle_any scope admits rules rules' n f f' checks checks' c (Some e) p q (inr h) = let u : checks ≡ None = h.0 in let z : ◌≡◌ {A = ℕ} 0 1 = cc in absurd (omega arith)
+settle_any scope admits rules rules' n f f' checks checks' c (Some e) p q (inr h) = let u : checks ≡ None = h.0 in absurd cc
 
 module _ {L R : Type 0} (K : Kinds L R) (b : Held) (l : Lengths) where
   -- what the checks see of the first lists, rules and cuts
@@ -64,10 +64,10 @@ module _ {L R : Type 0} (K : Kinds L R) (b : Held) (l : Lengths) where
       (then_check (fails_if (short_tables K.limit b l) 10) (then_check (held_checks xs rs ks) (room_refusal b l.log job place))) x
   FrontSays xs rs ks (Group rule) x =
       GroupSaid K.limit (current (family K.has xs) ks) (named_at K.names rs rule)
-      (then_check (fails_if (short_tables K.limit b l || ltb l.group b.jobs) 10) (then_check (held_checks xs rs ks) (fails_if (not (is_some (named_at K.names rs rule))) 18))) x
+      (then_check (fails_if (short_tables K.limit b l || nat_lt l.group b.jobs) 10) (then_check (held_checks xs rs ks) (fails_if (not (is_some (named_at K.names rs rule))) 18))) x
   FrontSays xs rs ks Settle x =
       (o : Option Code) × (x ≡ outcome o) × SettleSays K.scope K.admits rs b.jobs (current (family K.has xs) ks)
-      (then_check (fails_if (short_tables K.limit b l || ltb l.standing b.jobs) 10) (held_checks xs rs ks)) o
+      (then_check (fails_if (short_tables K.limit b l || nat_lt l.standing b.jobs) 10) (held_checks xs rs ks)) o
 
 module _ {L R : Type 0} (K : Kinds L R) (b : Held) (l : Lengths) (o o' : List L) (r r' : List R) (c c' : List Cut) where
   -- the same first lists, rules and cuts
@@ -87,10 +87,10 @@ module _ {L R : Type 0} (K : Kinds L R) (b : Held) (l : Lengths) (o o' : List L)
   says_short (Return k) x t h = h
   says_short (Trial job place) x t h = trial_any _ _ _ _ _ _ _ _ _ (code 10 0) x (stopped_first _ _ t) (stopped_first _ _ t) h
   says_short (Group rule) x t h =
-      let u : (short_tables K.limit b l || ltb l.group b.jobs) ≡ true = or_left _ _ t in
+      let u : (short_tables K.limit b l || nat_lt l.group b.jobs) ≡ true = or_left _ _ t in
       group_any _ _ _ _ _ _ _ (code 10 0) x (stopped_first _ _ u) (stopped_first _ _ u) h
   says_short Settle x t h =
-      let u : (short_tables K.limit b l || ltb l.standing b.jobs) ≡ true = or_left _ _ t in
+      let u : (short_tables K.limit b l || nat_lt l.standing b.jobs) ≡ true = or_left _ _ t in
       (h.0, h.1, settle_any _ _ _ _ _ _ _ _ _ (code 10 0) h.0 (stopped_first _ _ u) (stopped_first _ _ u) h.2)
 
   says_same : (a : Ask) (x : Said) → SameFronts → AskSays K b o r c l a x → AskSays K b o' r' c' l a x
@@ -109,14 +109,14 @@ module _ {L R : Type 0} (K : Kinds L R) (b : Held) (l : Lengths) (o : List L) (r
   pub settle_passed : (x : Said) → AskSays K b o r c l Settle x → succeeds x ≡ true → (short_tables K.limit b l ≡ false) × (b.jobs ≤ l.standing)
   settle_passed x (None, e, h) t =
       let p = or_parts _ _ (passed_first _ _ h.0) in
-      let q : ltb l.standing b.jobs ≡ false = p.1 in
+      let q : nat_lt l.standing b.jobs ≡ false = p.1 in
       (p.0, grind (arith, nat_tests))
-  settle_passed x (Some k, e, h) t = let z : ◌≡◌ {A = ℕ} 0 1 = cc in absurd (omega arith)
+  settle_passed x (Some k, e, h) t = absurd cc
 
   pub group_passed : (rule count d : ℕ) → AskSays K b o r c l (Group rule) (grouped count d) → (short_tables K.limit b l ≡ false) × (b.jobs ≤ l.group)
   group_passed rule count d h =
       let p = or_parts _ _ (passed_first _ _ h.0) in
-      let q : ltb l.group b.jobs ≡ false = p.1 in
+      let q : nat_lt l.group b.jobs ≡ false = p.1 in
       (p.0, grind (arith, nat_tests))
 
 module _ {L R : Type 0} (K : Kinds L R) (b : Held) (l : Lengths) (o o' : List L) (r r' : List R) (c c' : List Cut) (same : SameFronts K b l o o' r r' c c') where

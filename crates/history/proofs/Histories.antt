@@ -1,5 +1,5 @@
 -- Histories: their moments, one event more, trials left out, and what the calls determine.
-use Rattle.std.proofs.Common.{◌≡◌, ℕ, zero, suc, ◌<◌, Bool, true, false, cond, List, [], ◌∷◌, ◌++◌, length, get_or, set, sym, refl, ap, ◌∙◌, subst, arith}
+use Rattle.std.proofs.Common.{◌≡◌, ℕ, zero, suc, ◌<◌, Bool, true, false, if◌then◌else◌, List, [], ◌∷◌, ◌++◌, length, get_or, set, sym, refl, ap, ◌∙◌, subst, arith}
 use Rattle.std.proofs.lemmas.List.{map-set, get_or-map, set-get_or}
 use Rattle.cuts.specs.declared.cut.Cut.{Cut}
 use Rattle.board.specs.declared.stage.Closed.{Closed}
@@ -33,7 +33,7 @@ same_calls h i e d p lt =
 
 -- ---- trials left out
 
-cond_same : {X : Type 0} (t : Bool) (x y : X) → x ≡ y → cond t x y ≡ y
+cond_same : {X : Type 0} (t : Bool) (x y : X) → x ≡ y → (if t then x else y) ≡ y
 cond_same true x y p = p
 cond_same false x y p = refl
 
@@ -125,8 +125,8 @@ module _ {L R : Type 0} (K : Kinds L R) (s : Setting L R) where
   -- the calls determine the answers
   pub same_answers : (ks : List Cut) (h h' : List Event) → Moments K s ks h → Moments K s ks h' → calls_of h ≡ calls_of h' → answers_of h ≡ answers_of h'
   same_answers ks [] [] m m' p = refl
-  same_answers ks [] (e ∷ h) m m' p = let z : ◌≡◌ {A = ℕ} 0 1 = cc in absurd (omega arith)
-  same_answers ks (e ∷ h) [] m m' p = let z : ◌≡◌ {A = ℕ} 0 1 = cc in absurd (omega arith)
+  same_answers ks [] (e ∷ h) m m' p = absurd cc
+  same_answers ks (e ∷ h) [] m m' p = absurd cc
   same_answers ks (e ∷ h) (e' ∷ h') m m' p =
       let pc : e.call ≡ e'.call = cc in
       let pr : calls_of h ≡ calls_of h' = cc in
@@ -134,6 +134,6 @@ module _ {L R : Type 0} (K : Kinds L R) (s : Setting L R) where
       ask_one K (held_at s ks) s.opened s.rules ks (lent_to e.call.lent s.tables) e.call.ask (said e.answer) (said e'.answer)
       (first_moment ks e h m) (subst (λ (q : Call). CallSays K s ks q (said e'.answer)) (sym pc) (first_moment ks e' h' m')) in
       let k : cuts_after ks e' ≡ cuts_after ks e =
-      sym (ap (λ x. cond (succeeds x) (cuts_by e.call.ask ks) ks) a ∙ ap (λ (q : Call). cond (succeeds (said e'.answer)) (cuts_by q.ask ks) ks) pc) in
+      sym (ap (λ x. if succeeds x then cuts_by e.call.ask ks else ks) a ∙ ap (λ (q : Call). if succeeds (said e'.answer) then cuts_by q.ask ks else ks) pc) in
       let r : answers_of h ≡ answers_of h' = same_answers (cuts_after ks e) h h' (later_moments ks e h m) (subst (λ x. Moments K s x h') k (later_moments ks e' h' m')) pr in
       cc

@@ -21,18 +21,18 @@ whole : {X : Type 0} (xs : List X) → take (length xs) xs ≡ xs
 whole xs = take_all (length xs) xs (omega arith)
 
 outcome_refused : (o : Option Code) (c : Code) → refused c ≡ outcome o → o ≡ Some c
-outcome_refused None c e = let z : ◌≡◌ {A = ℕ} 0 1 = cc in absurd (omega arith)
+outcome_refused None c e = absurd cc
 outcome_refused (Some d) c e = cc
 
 outcome_done : (o : Option Code) → done ≡ outcome o → o ≡ None
 outcome_done None e = refl
-outcome_done (Some d) e = let z : ◌≡◌ {A = ℕ} 0 1 = cc in absurd (omega arith)
+outcome_done (Some d) e = absurd cc
 
 trial_refused : {R : Type 0} (scope : R → List ℕ) (admits : R → List ℕ → Bool) (rules : List R) (n : ℕ) (f : Family) (checks : Option Code) (c : Code) (x : Said)
     → checks ≡ Some c → TrialSaid scope admits rules n f checks x → x ≡ refused c
 trial_refused scope admits rules n f checks c done p h = absurd h
-trial_refused scope admits rules n f checks c yes_said p h = let e : checks ≡ None = h.0 in let z : ◌≡◌ {A = ℕ} 0 1 = cc in absurd (omega arith)
-trial_refused scope admits rules n f checks c no_said p h = let e : checks ≡ None = h.0 in let z : ◌≡◌ {A = ℕ} 0 1 = cc in absurd (omega arith)
+trial_refused scope admits rules n f checks c yes_said p h = let e : checks ≡ None = h.0 in absurd cc
+trial_refused scope admits rules n f checks c no_said p h = let e : checks ≡ None = h.0 in absurd cc
 trial_refused scope admits rules n f checks c (grouped count d) p h = absurd h
 trial_refused scope admits rules n f checks c (refused e) p h = let q : checks ≡ Some e = h in cc
 
@@ -41,23 +41,23 @@ group_refused : (limit : ℕ) (f : Family) (named : Option Progression) (checks 
 group_refused limit f named checks c done p h = absurd h
 group_refused limit f named checks c yes_said p h = absurd h
 group_refused limit f named checks c no_said p h = absurd h
-group_refused limit f named checks c (grouped count d) p h = let e : checks ≡ None = h.0 in let z : ◌≡◌ {A = ℕ} 0 1 = cc in absurd (omega arith)
+group_refused limit f named checks c (grouped count d) p h = let e : checks ≡ None = h.0 in absurd cc
 group_refused limit f named checks c (refused e) p h = let q : checks ≡ Some e = h in cc
 
 module _ {R : Type 0} (scope : R → List ℕ) (admits : R → List ℕ → Bool) (rules : List R) (n : ℕ) (f : Family) (checks : Option Code) where
   settle_refused : (c : Code) (o : Option Code) → checks ≡ Some c → SettleSays scope admits rules n f checks o → o ≡ Some c
-  settle_refused c None p h = let e : checks ≡ None = h.0 in let z : ◌≡◌ {A = ℕ} 0 1 = cc in absurd (omega arith)
+  settle_refused c None p h = let e : checks ≡ None = h.0 in absurd cc
   settle_refused c (Some d) p (inl h) = sym h ∙ p
-  settle_refused c (Some d) p (inr h) = let e : checks ≡ None = h.0 in let z : ◌≡◌ {A = ℕ} 0 1 = cc in absurd (omega arith)
+  settle_refused c (Some d) p (inr h) = let e : checks ≡ None = h.0 in absurd cc
 
   settle_whole : (o : Option Code) → checks ≡ None → Complete scope admits rules n f → SettleSays scope admits rules n f checks o → o ≡ None
   settle_whole None p all h = refl
-  settle_whole (Some d) p all (inl h) = let z : ◌≡◌ {A = ℕ} 0 1 = cc in absurd (omega arith)
+  settle_whole (Some d) p all (inl h) = absurd cc
   settle_whole (Some d) p all (inr h) = absurd (h.1.2.emptied (all h.1.0 h.1.2.below))
 
   settle_short : (j : ℕ) (o : Option Code) → checks ≡ None → ShortAt scope admits rules n f j → SettleSays scope admits rules n f checks o → o ≡ Some (code 20 j)
   settle_short j None p short h = absurd (short.emptied (h.1 j short.below))
-  settle_short j (Some d) p short (inl h) = let z : ◌≡◌ {A = ℕ} 0 1 = cc in absurd (omega arith)
+  settle_short j (Some d) p short (inl h) = absurd cc
   settle_short j (Some d) p short (inr h) =
       ap (λ v. Some v) (h.1.1 ∙ ap (λ i. code 20 i) (lowest_one scope admits rules n f h.1.0 j h.1.2 short))
 
@@ -118,10 +118,10 @@ module _ {L R : Type 0} (K : Kinds L R) (s : Setting L R) (ks : List Cut) (l : L
       → (x ≡ done → (by_book a ≡ None) × Complete K.scope K.admits s.rules s.jobs lists)
       × (by_book a ≡ None → Complete K.scope K.admits s.rules s.jobs lists → x ≡ done)
       × ((j : ℕ) → by_book a ≡ None → ShortAt K.scope K.admits s.rules s.jobs lists j → x ≡ refused (code 20 j))
-  settling_right (CutOf action job place) e h = let z : ◌≡◌ {A = ℕ} 0 1 = cc in absurd (omega arith)
-  settling_right (Return k) e h = let z : ◌≡◌ {A = ℕ} 0 1 = cc in absurd (omega arith)
-  settling_right (Trial job place) e h = let z : ◌≡◌ {A = ℕ} 0 1 = cc in absurd (omega arith)
-  settling_right (Group rule) e h = let z : ◌≡◌ {A = ℕ} 0 1 = cc in absurd (omega arith)
+  settling_right (CutOf action job place) e h = absurd cc
+  settling_right (Return k) e h = absurd cc
+  settling_right (Trial job place) e h = absurd cc
+  settling_right (Group rule) e h = absurd cc
   settling_right Settle e h =
       let now = settle_here h.0 (by_book Settle) h.2 in (
         λ p. subst (λ v. SettleSays K.scope K.admits s.rules s.jobs lists (by_book Settle) v) (outcome_done h.0 (sym p ∙ h.1)) now,

@@ -1,5 +1,5 @@
 -- A run, event by event.
-use Rattle.std.proofs.Common.{◌≡◌, ℕ, ◌+◌, ◌<◌, ◌≤◌, Bool, true, false, cond, List, [], ◌∷◌, ◌++◌, length, get_or, take, drop, set, sym, refl, ap, ◌∙◌, subst, arith}
+use Rattle.std.proofs.Common.{◌≡◌, ℕ, ◌+◌, ◌<◌, ◌≤◌, Bool, true, false, if◌then◌else◌, List, [], ◌∷◌, ◌++◌, length, get_or, take, drop, set, sym, ap, ◌∙◌, subst}
 use Rattle.std.proofs.lemmas.List.{take_more_set, take_all, length-take-le}
 use Rattle.places.specs.Families.{family}
 use Rattle.cuts.specs.declared.cut.Cut.{Cut}
@@ -16,9 +16,6 @@ use Rattle.history.specs.Runs.{cuts_at, Run}
 use Rattle.history.proofs.Histories.{cuts_push, log_push, stage_push, same_calls, moments_push, standing_push, group_push, trials_out, log_out, standing_out, group_out, same_answers}
 use Rattle.history.proofs.Moments.{book_refuses, refused_by_book, settling_right, trial_right, group_right, stands_here}
 
-not_settled : AtWork ≡ IsSettled → ⊥
-not_settled p = let z : ◌≡◌ {A = ℕ} 0 1 = cc in omega arith
-
 module _ {L R : Type 0} (K : Kinds L R) (s : Setting L R) where
   -- the first standing lists are the greatest consistent family inside the current lists
   pub record StandsAt (ks : List Cut) (lists : List L) : Type 0 where
@@ -27,9 +24,9 @@ module _ {L R : Type 0} (K : Kinds L R) (s : Setting L R) where
 
   -- one call more on a settled board
   stands_more : (t : Bool) (a : Ask) (ks : List Cut) (st : Closed) (lists lists' : List L) → (st ≡ IsSettled → StandsAt ks lists)
-      → StandingAfter t K (held_at s ks) s.opened s.rules ks a lists lists' → cond t (stage_by a st) st ≡ IsSettled → StandsAt (cond t (cuts_by a ks) ks) lists'
-  stands_more true (CutOf action job place) ks st lists lists' h e p = absurd (not_settled p)
-  stands_more true (Return k) ks st lists lists' h e p = absurd (not_settled p)
+      → StandingAfter t K (held_at s ks) s.opened s.rules ks a lists lists' → (if t then stage_by a st else st) ≡ IsSettled → StandsAt (if t then cuts_by a ks else ks) lists'
+  stands_more true (CutOf action job place) ks st lists lists' h e p = absurd cc
+  stands_more true (Return k) ks st lists lists' h e p = absurd cc
   stands_more true (Trial job place) ks st lists lists' h e p = subst (StandsAt ks) (sym e) (h p)
   stands_more true (Group rule) ks st lists lists' h e p = subst (StandsAt ks) (sym e) (h p)
   stands_more true Settle ks st lists lists' h e p =
@@ -61,20 +58,6 @@ pub record InRun {L R : Type 0} (K : Kinds L R) (s : Setting L R) (asked events 
   pub grouping : GroupFrom K s [] (take i events) table₀ table
 
 module _ {L R : Type 0} (K : Kinds L R) (s : Setting L R) (asked events : List Event) where
-  pub in_run_none : (log : List Cut) (lists : List L) (table : List ℕ) → InRun K s asked asked 0 0 log log AtWork lists lists table table
-  in_run_none log lists table = record {
-    calls = refl;
-    room = omega arith;
-    counted = refl;
-    logged = refl;
-    staged = refl;
-    answers = λ i d lt. absurd (omega arith);
-    standing = refl;
-    stands = λ p. absurd (not_settled p);
-    past = refl;
-    grouping = refl;
-  }
-
   pub in_run_more : (s' : Setting L R) (i cuts cuts' : ℕ) (log₀ log log' : List Cut) (st st' : Closed) (lists₀ lists lists' : List L) (table₀ table table' : List ℕ) (e d : Event)
       → InRun K s asked events i cuts log₀ log st lists₀ lists table₀ table → i < length events → e.call ≡ (get_or events i d).call
       → s' ≡ s → Stepped K s' (take cuts log) log st lists table e cuts' log' st' lists' table'
@@ -138,12 +121,6 @@ module _ {L R : Type 0} (K : Kinds L R) (s : Setting L R) (asked events : List E
             };
         determined = λ h' m p. same_answers K s [] h' events m lawful p;
       }
-
-  -- a board that was just closed
-  pub in_run_start : (cuts : ℕ) (st : Closed) (log : List Cut) (lists : List L) (table : List ℕ) → cuts ≡ 0 → st ≡ AtWork → InRun K s asked asked 0 cuts log log st lists lists table table
-  in_run_start cuts st log lists table p q =
-      subst (λ c. InRun K s asked asked 0 c log log st lists lists table table) (sym p)
-      (subst (λ v. InRun K s asked asked 0 0 log log v lists lists table table) (sym q) (in_run_none log lists table))
 
 -- settings with the same numbers and lengths are the same
 pub setting_same : {L R : Type 0} (n n' w w' k k' : ℕ) (opened : List L) (rules : List R) (t t' : Lengths) → n ≡ n' → w ≡ w' → k ≡ k' → t ≡ t'

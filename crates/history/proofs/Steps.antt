@@ -1,5 +1,5 @@
 -- One call on the fronts that it is lent, as the whole tables see it.
-use Rattle.std.proofs.Common.{◌≡◌, ℕ, ◌+◌, ◌<◌, ◌≤◌, min, Bool, true, false, cond, List, [], ◌∷◌, ◌++◌, length, take, drop, set, sym, refl, ap, ◌∙◌, subst, inl, inr, arith}
+use Rattle.std.proofs.Common.{◌≡◌, ℕ, ◌+◌, ◌<◌, ◌≤◌, min, Bool, true, false, if◌then◌else◌, List, [], ◌∷◌, ◌++◌, length, take, drop, set, sym, refl, ap, ◌∙◌, subst, inl, inr, arith}
 use Rattle.std.proofs.lemmas.List.{length-set, length-take, length-take-le, set-append_left, take-append-drop, take_more_set, take-take}
 use Rattle.std.proofs.lemmas.Bool.{cases_Bool, cond-true, cond-false}
 use Rattle.std.proofs.lemmas.Bool.Decides.{nat_tests}
@@ -9,7 +9,6 @@ use Rattle.board.specs.Moments.{current_lists}
 use Rattle.board.specs.Outcomes.{lengths}
 use Rattle.board.specs.declared.lengths.Lengths.{Lengths}
 use Rattle.board.specs.declared.stage.Closed.{Closed}
-use Rattle.board.proofs.Trials.{not_short}
 use Rattle.history.specs.declared.event.Answer.{Answer}
 use Rattle.history.specs.declared.event.Ask.{Ask}
 use Rattle.history.specs.declared.event.Ask.TheVariants.{Cut as CutOf, Return, Trial, Group, Settle}
@@ -23,6 +22,15 @@ cut_room b log job place e = grind (arith, nat_tests)
 
 return_kept : (b : Held) (log k : ℕ) → succeeds (outcome (return_refusal b log k)) ≡ true → k ≤ b.cuts
 return_kept b log k e = grind (arith, nat_tests)
+
+-- tables that are long enough
+record Fits (limit : ℕ) (b : Held) (l : Lengths) : Type 0 where
+  opened : b.jobs ≤ l.opened
+  held : b.rules ≤ l.rules
+  counted : b.cuts ≤ l.log
+
+not_short : (limit : ℕ) (b : Held) (l : Lengths) → short_tables limit b l ≡ false → Fits limit b l
+not_short limit b l e = record { opened = grind (arith, nat_tests); held = grind (arith, nat_tests); counted = grind (arith, nat_tests) }
 
 front_length : {X : Type 0} (i a : ℕ) (xs : List X) → i ≡ min a (length xs) → length (take i xs) ≡ min a (length xs)
 front_length i a xs e = length-take-le i xs (omega arith) ∙ e
@@ -151,12 +159,12 @@ module _ {L R W : Type 0} (K : Kinds L R) (n w k held held' : ℕ) (opened : Lis
 
   -- the fields, where the cuts and the log after the call are known
   step_from : (a : Ask) (t : Bool) → AskedHere a → succeeds (said x) ≡ t
-      → take held' log' ≡ cond t (cuts_by a counted) counted → held' ≤ length log' → log' ≡ cond t (log_by a held log) log → SteppedHere a
+      → take held' log' ≡ (if t then cuts_by a counted else counted) → held' ≤ length log' → log' ≡ (if t then log_by a held log else log) → SteppedHere a
   step_from a t h p c r e = record {
     answer = answered a h;
-    counted = c ∙ ap (λ v. cond v (cuts_by a counted) counted) (sym p);
+    counted = c ∙ ap (λ v. if v then cuts_by a counted else counted) (sym p);
     room = r;
-    logged = e ∙ ap (λ v. cond v (log_by a held log) log) (sym p) ∙ ap (λ i. cond (succeeds (said x)) (log_by a i log) log) (sym (length-take-le held log pc));
+    logged = e ∙ ap (λ v. if v then log_by a held log else log) (sym p) ∙ ap (λ i. if succeeds (said x) then log_by a i log else log) (sym (length-take-le held log pc));
     staged = h.staged;
     stood = stood_here a h;
     grouping = group_here a h;
@@ -164,7 +172,7 @@ module _ {L R W : Type 0} (K : Kinds L R) (n w k held held' : ℕ) (opened : Lis
 
   -- a call that leaves cuts and log
   step_still : (a : Ask) (t : Bool) → AskedHere a → succeeds (said x) ≡ t → held' ≡ held → flog ≡ take f.log log
-      → counted ≡ cond t (cuts_by a counted) counted → log ≡ cond t (log_by a held log) log → SteppedHere a
+      → counted ≡ (if t then cuts_by a counted else counted) → log ≡ (if t then log_by a held log else log) → SteppedHere a
   step_still a t h p hs fs c e =
       let ls : log' ≡ log = front_back f.log log flog log' fs plog in
       let r : held' ≤ length log' = rw (hs, ls) pc in

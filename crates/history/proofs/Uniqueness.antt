@@ -1,5 +1,5 @@
 -- A call has one answer.
-use Rattle.std.proofs.Common.{◌≡◌, ℕ, zero, suc, ◌<◌, Bool, cond, List, [], ◌∷◌, length, get_or, Some, None, Option, sym, refl, ap, ◌∙◌, subst, inl, inr, arith}
+use Rattle.std.proofs.Common.{◌≡◌, ℕ, zero, suc, ◌<◌, Bool, if◌then◌else◌, List, [], ◌∷◌, length, get_or, Some, None, Option, sym, refl, ap, ◌∙◌, subst, inl, inr, arith}
 use Rattle.std.proofs.lemmas.Bool.{cases_order}
 use Rattle.refusals.specs.Codes.{Code, code}
 use Rattle.theory.specs.Lists.{member}
@@ -29,13 +29,13 @@ lowest_one scope admits rules n f i j p q =
 settle_one : {R : Type 0} (scope : R → List ℕ) (admits : R → List ℕ → Bool) (rules : List R) (n : ℕ) (f : Family) (checks o o' : Option Code)
     → SettleSays scope admits rules n f checks o → SettleSays scope admits rules n f checks o' → o ≡ o'
 settle_one scope admits rules n f checks None None p q = refl
-settle_one scope admits rules n f checks None (Some c) p (inl q) = let e : checks ≡ None = p.0 in let z : ◌≡◌ {A = ℕ} 0 1 = cc in absurd (omega arith)
+settle_one scope admits rules n f checks None (Some c) p (inl q) = let e : checks ≡ None = p.0 in absurd cc
 settle_one scope admits rules n f checks None (Some c) p (inr q) = absurd (q.1.2.emptied (p.1 q.1.0 q.1.2.below))
-settle_one scope admits rules n f checks (Some c) None (inl p) q = let e : checks ≡ None = q.0 in let z : ◌≡◌ {A = ℕ} 0 1 = cc in absurd (omega arith)
+settle_one scope admits rules n f checks (Some c) None (inl p) q = let e : checks ≡ None = q.0 in absurd cc
 settle_one scope admits rules n f checks (Some c) None (inr p) q = absurd (p.1.2.emptied (q.1 p.1.0 p.1.2.below))
 settle_one scope admits rules n f checks (Some c) (Some c') (inl p) (inl q) = sym p ∙ q
-settle_one scope admits rules n f checks (Some c) (Some c') (inl p) (inr q) = let e : checks ≡ None = q.0 in let z : ◌≡◌ {A = ℕ} 0 1 = cc in absurd (omega arith)
-settle_one scope admits rules n f checks (Some c) (Some c') (inr p) (inl q) = let e : checks ≡ None = p.0 in let z : ◌≡◌ {A = ℕ} 0 1 = cc in absurd (omega arith)
+settle_one scope admits rules n f checks (Some c) (Some c') (inl p) (inr q) = let e : checks ≡ None = q.0 in absurd cc
+settle_one scope admits rules n f checks (Some c) (Some c') (inr p) (inl q) = let e : checks ≡ None = p.0 in absurd cc
 settle_one scope admits rules n f checks (Some c) (Some c') (inr p) (inr q) =
     let e = lowest_one scope admits rules n f p.1.0 q.1.0 p.1.2 q.1.2 in
     ap (λ v. Some v) (p.1.1 ∙ ap (λ j. code 20 j) e ∙ sym q.1.1)
@@ -56,12 +56,12 @@ trial_way scope admits rules n f checks (refused c) h = stopped c h
 
 trial_one : (checks : Option Code) (C : Type 0) (x y : Said) → TrialWay checks C x → TrialWay checks C y → x ≡ y
 trial_one checks C x y (stopped c p) (stopped c' q) = cc
-trial_one checks C x y (stopped c p) (fits q h) = let z : ◌≡◌ {A = ℕ} 0 1 = cc in absurd (omega arith)
-trial_one checks C x y (stopped c p) (fails q h) = let z : ◌≡◌ {A = ℕ} 0 1 = cc in absurd (omega arith)
-trial_one checks C x y (fits p h) (stopped c q) = let z : ◌≡◌ {A = ℕ} 0 1 = cc in absurd (omega arith)
+trial_one checks C x y (stopped c p) (fits q h) = absurd cc
+trial_one checks C x y (stopped c p) (fails q h) = absurd cc
+trial_one checks C x y (fits p h) (stopped c q) = absurd cc
 trial_one checks C x y (fits p h) (fits q h') = refl
 trial_one checks C x y (fits p h) (fails q h') = absurd (h' h)
-trial_one checks C x y (fails p h) (stopped c q) = let z : ◌≡◌ {A = ℕ} 0 1 = cc in absurd (omega arith)
+trial_one checks C x y (fails p h) (stopped c q) = absurd cc
 trial_one checks C x y (fails p h) (fits q h') = absurd (h h')
 trial_one checks C x y (fails p h) (fails q h') = refl
 
@@ -69,8 +69,8 @@ trial_one checks C x y (fails p h) (fails q h') = refl
 picked_same : (t t' : ℕ → Bool) (xs : List ℕ) → ((k : ℕ) → k < length xs → t (get_or xs k 0) ≡ t' (get_or xs k 0)) → picked t xs ≡ picked t' xs
 picked_same t t' [] h = refl
 picked_same t t' (x ∷ xs) h =
-    ap (λ v. cond v (x ∷ picked t xs) (picked t xs)) (h zero (omega arith))
-    ∙ ap (λ v. cond (t' x) (x ∷ v) v) (picked_same t t' xs (λ k lt. h (suc k) (omega arith)))
+    ap (λ v. if v then x ∷ picked t xs else picked t xs) (h zero (omega arith))
+    ∙ ap (λ v. if t' x then x ∷ v else v) (picked_same t t' xs (λ k lt. h (suc k) (omega arith)))
 
 -- a scope has one group
 pub group_one : (w : ℕ) (f : Family) (scope jobs jobs' : List ℕ) (d d' : ℕ) → GroupIs w f scope jobs d → GroupIs w f scope jobs' d' → (jobs ≡ jobs') × (d ≡ d')
@@ -92,8 +92,8 @@ group_way limit f named checks (refused c) h = group_stopped c h
 
 group_answer : (limit : ℕ) (f : Family) (named : Option Progression) (checks : Option Code) (x y : Said) → GroupWay limit f named checks x → GroupWay limit f named checks y → x ≡ y
 group_answer limit f named checks x y (group_stopped c p) (group_stopped c' q) = cc
-group_answer limit f named checks x y (group_stopped c p) (found count d r jobs e names size g) = let z : ◌≡◌ {A = ℕ} 0 1 = cc in absurd (omega arith)
-group_answer limit f named checks x y (found count d r jobs e names size g) (group_stopped c p) = let z : ◌≡◌ {A = ℕ} 0 1 = cc in absurd (omega arith)
+group_answer limit f named checks x y (group_stopped c p) (found count d r jobs e names size g) = absurd cc
+group_answer limit f named checks x y (found count d r jobs e names size g) (group_stopped c p) = absurd cc
 group_answer limit f named checks x y (found count d r jobs e names size g) (found count' d' r' jobs' e' names' size' g') =
     let same : r' ≡ r = cc in
     let u = group_one limit f (jobs_of r) jobs jobs' d d' g (subst (λ v. GroupIs limit f (jobs_of v) jobs' d') same g') in

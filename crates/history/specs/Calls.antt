@@ -1,5 +1,5 @@
 -- What one call on a closed board says, at the cuts that are counted then, and what it leaves.
-use Rattle.std.specs.Prelude.{◌≡◌, ℕ, ◌+◌, ◌≤◌, Bool, true, false, cond, List, length, take, drop, Some, None, Option, slice_set}
+use Rattle.std.specs.Prelude.{◌≡◌, ℕ, ◌+◌, ◌≤◌, Bool, true, false, if◌then◌else◌, List, length, take, drop, Some, None, Option, slice_set}
 use Rattle.refusals.specs.Codes.{Code, says}
 use Rattle.places.specs.Families.{Family, fixed}
 use Rattle.cuts.specs.declared.cut.Cut.{Cut}
@@ -145,8 +145,8 @@ StandingAfter false K b opened rules cuts a before after = after ≡ before
 -- One call on the tables that it is lent, and what it leaves.
 pub record Asked {L R : Type 0} (K : Kinds L R) (b : Held) (opened : List L) (rules : List R) (l : Lengths) (a : Ask) (x : Said) (cuts' : ℕ) (log log' : List Cut) (st st' : Closed) (standing standing' : List L) (group group' : List ℕ) : Type 0 where
   pub answer : AskSays K b opened rules log l a x
-  pub count : cuts' ≡ cond (succeeds x) (count_by a b.cuts) b.cuts
-  pub logged : log' ≡ cond (succeeds x) (log_by a b.cuts log) log
-  pub staged : st' ≡ cond (succeeds x) (stage_by a st) st
+  pub count : cuts' ≡ if succeeds x then count_by a b.cuts else b.cuts
+  pub logged : log' ≡ if succeeds x then log_by a b.cuts log else log
+  pub staged : st' ≡ if succeeds x then stage_by a st else st
   pub stood : StandingAfter (succeeds x) K b opened rules log a standing standing'
   pub grouping : GroupBy K b opened rules log a x group group'

@@ -1,5 +1,5 @@
 -- Rules offered to a board that was just opened: which are accepted, and what the rules table then holds.
-use Rattle.std.specs.Prelude.{◌≡◌, ℕ, ◌<◌, ◌≤◌, min, Bool, cond, List, [], ◌∷◌, ◌++◌, map, length, take, slice_index_or, slice_set}
+use Rattle.std.specs.Prelude.{◌≡◌, ℕ, ◌<◌, ◌≤◌, min, Bool, if◌then◌else◌, List, [], ◌∷◌, ◌++◌, map, length, take, slice_index_or, slice_set}
 use Rattle.board.specs.Book.{Held, add_refusal}
 use Rattle.history.specs.declared.offer.Offer.{Offer}
 use Rattle.history.specs.Calls.{said, succeeds, outcome}
@@ -10,11 +10,11 @@ filling n w rs = record { jobs = n; width = w; rules = length rs; cuts = 0 }
 
 -- the accepted rules after an offer: an accepted rule goes last, a refused one is passed over
 abbrev pub accepted_after : {R : Type 0} → List R → Offer R → List R
-accepted_after rs o = cond (succeeds (said o.answer)) (rs ++ o.rule ∷ []) rs
+accepted_after rs o = if succeeds (said o.answer) then rs ++ o.rule ∷ [] else rs
 
 -- the rules table after an offer: an accepted rule is written to the slot past those accepted before
 abbrev pub table_after : {R : Type 0} → List R → List R → Offer R → List R
-table_after rs table o = cond (succeeds (said o.answer)) (slice_set table (length rs) o.rule) table
+table_after rs table o = if succeeds (said o.answer) then slice_set table (length rs) o.rule else table
 
 -- the same after all offers, in order
 abbrev pub accepted_from : {R : Type 0} → List R → List (Offer R) → List R

@@ -1,5 +1,5 @@
 -- The law of a day: what the calls on a closed board and their answers say of its cuts, log, stage, standing lists and group table.
-use Rattle.std.specs.Prelude.{◌≡◌, ℕ, ◌<◌, ◌≤◌, min, cond, List, [], ◌∷◌, ◌++◌, map, length, take, Option, slice_index_or}
+use Rattle.std.specs.Prelude.{◌≡◌, ℕ, ◌<◌, ◌≤◌, min, if◌then◌else◌, List, [], ◌∷◌, ◌++◌, map, length, take, Option, slice_index_or}
 use Rattle.refusals.specs.Codes.{Code}
 use Rattle.places.specs.Families.{Family, family}
 use Rattle.cuts.specs.Current.{current}
@@ -63,13 +63,13 @@ cuts_by Settle ks = ks
 
 -- the counted cuts, the log and the stage after a call: as before where it was refused
 abbrev pub cuts_after : List Cut → Event → List Cut
-cuts_after ks e = cond (succeeds (said e.answer)) (cuts_by e.call.ask ks) ks
+cuts_after ks e = if succeeds (said e.answer) then cuts_by e.call.ask ks else ks
 
 abbrev pub log_after : List Cut → List Cut → Event → List Cut
-log_after ks log e = cond (succeeds (said e.answer)) (log_by e.call.ask (length ks) log) log
+log_after ks log e = if succeeds (said e.answer) then log_by e.call.ask (length ks) log else log
 
 abbrev pub stage_after : Closed → Event → Closed
-stage_after st e = cond (succeeds (said e.answer)) (stage_by e.call.ask st) st
+stage_after st e = if succeeds (said e.answer) then stage_by e.call.ask st else st
 
 -- the same after a history, by its calls and answers alone
 abbrev pub cuts_from : List Cut → List Event → List Cut

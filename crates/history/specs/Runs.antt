@@ -1,5 +1,5 @@
 -- A run: the events of a day, from the closing of the board on, and what they leave.
-use Rattle.std.specs.Prelude.{◌≡◌, ℕ, ◌<◌, ◌⊎◌, List, [], length, get_or, take, drop, Some, None, Option, slice_index_or}
+use Rattle.std.specs.Prelude.{◌≡◌, ℕ, ◌<◌, ◌⊎◌, List, [], length, take, drop, Some, None, Option, slice_index_or}
 use Rattle.refusals.specs.Codes.{Code, code}
 use Rattle.places.specs.Families.{family, fixed}
 use Rattle.cuts.specs.declared.cut.Cut.{Cut}
@@ -30,26 +30,26 @@ LowestAt K s h i j = ShortAt K.scope K.admits s.rules s.jobs (current_by K s (cu
 -- every refusal is the one of the book, or a settling's 20, and what the book refuses is refused so
 abbrev pub Refusals : {L R : Type 0} → Kinds L R → Setting L R → List Event → Type 0
 Refusals K s h = (i : ℕ) (d : Event) → i < length h → (c : Code)
-    → (book_at K s h i (slice_index_or h i d) ≡ Some c → said (get_or h i d).answer ≡ refused c)
-    × (said (get_or h i d).answer ≡ refused c → (book_at K s h i (slice_index_or h i d) ≡ Some c)
-    ⊎ ((book_at K s h i (slice_index_or h i d) ≡ None) × ((get_or h i d).call.ask ≡ Settle) × ((j : ℕ) × (c ≡ code 20 j) × LowestAt K s h i j)))
+    → (book_at K s h i (slice_index_or h i d) ≡ Some c → said (slice_index_or h i d).answer ≡ refused c)
+    × (said (slice_index_or h i d).answer ≡ refused c → (book_at K s h i (slice_index_or h i d) ≡ Some c)
+    ⊎ ((book_at K s h i (slice_index_or h i d) ≡ None) × ((slice_index_or h i d).call.ask ≡ Settle) × ((j : ℕ) × (c ≡ code 20 j) × LowestAt K s h i j)))
 
 -- a settling that the book does not refuse is done exactly where every job is left a place, and names the lowest job that is left none
 abbrev pub Settlings : {L R : Type 0} → Kinds L R → Setting L R → List Event → Type 0
-Settlings K s h = (i : ℕ) (d : Event) → i < length h → (get_or h i d).call.ask ≡ Settle
-    → (said (get_or h i d).answer ≡ done → (book_at K s h i (slice_index_or h i d) ≡ None) × CompleteAt K s h i)
-    × (book_at K s h i (slice_index_or h i d) ≡ None → CompleteAt K s h i → said (get_or h i d).answer ≡ done)
-    × ((j : ℕ) → book_at K s h i (slice_index_or h i d) ≡ None → LowestAt K s h i j → said (get_or h i d).answer ≡ refused (code 20 j))
+Settlings K s h = (i : ℕ) (d : Event) → i < length h → (slice_index_or h i d).call.ask ≡ Settle
+    → (said (slice_index_or h i d).answer ≡ done → (book_at K s h i (slice_index_or h i d) ≡ None) × CompleteAt K s h i)
+    × (book_at K s h i (slice_index_or h i d) ≡ None → CompleteAt K s h i → said (slice_index_or h i d).answer ≡ done)
+    × ((j : ℕ) → book_at K s h i (slice_index_or h i d) ≡ None → LowestAt K s h i j → said (slice_index_or h i d).answer ≡ refused (code 20 j))
 
 -- a trial says yes exactly where the current lists with the job fixed to the place leave every job a place
 abbrev pub TrialsRight : {L R : Type 0} → Kinds L R → Setting L R → List Event → Type 0
-TrialsRight K s h = (i : ℕ) (d : Event) → i < length h → (job place : ℕ) → (get_or h i d).call.ask ≡ Trial job place
-    → TrialSaid K.scope K.admits s.rules s.jobs (fixed job place (current_by K s (cuts_at h i))) (book_at K s h i (slice_index_or h i d)) (said (get_or h i d).answer)
+TrialsRight K s h = (i : ℕ) (d : Event) → i < length h → (job place : ℕ) → (slice_index_or h i d).call.ask ≡ Trial job place
+    → TrialSaid K.scope K.admits s.rules s.jobs (fixed job place (current_by K s (cuts_at h i))) (book_at K s h i (slice_index_or h i d)) (said (slice_index_or h i d).answer)
 
 -- a group question gives the number of jobs and the deficiency of the group, in the current lists, of the jobs that the rule names
 abbrev pub GroupsRight : {L R : Type 0} → Kinds L R → Setting L R → List Event → Type 0
-GroupsRight K s h = (i : ℕ) (d : Event) → i < length h → (rule : ℕ) → (get_or h i d).call.ask ≡ Group rule
-    → GroupSaid K.limit (current_by K s (cuts_at h i)) (named_at K.names s.rules rule) (book_at K s h i (slice_index_or h i d)) (said (get_or h i d).answer)
+GroupsRight K s h = (i : ℕ) (d : Event) → i < length h → (rule : ℕ) → (slice_index_or h i d).call.ask ≡ Group rule
+    → GroupSaid K.limit (current_by K s (cuts_at h i)) (named_at K.names s.rules rule) (book_at K s h i (slice_index_or h i d)) (said (slice_index_or h i d).answer)
 
 -- another history h' is lawful too, and leaves the same cuts, log, stage, standing lists and group table
 pub record SameDay {L R : Type 0} (K : Kinds L R) (s : Setting L R) (h h' : List Event) (log : List Cut) (lists lists' : List L) (table table' : List ℕ) : Type 0 where

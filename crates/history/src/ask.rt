@@ -1,64 +1,54 @@
 // One call on a closed board, on the tables that it is lent.
-ghost use Rattle.std.specs.Prelude.{◌≡◌, length, if◌then◌else◌};
+ghost use Rattle.std.specs.Prelude.{◌≡◌, length, MatchResult};
 ghost use Rattle.board.specs.Book.{held_by};
-ghost use Rattle.board.specs.Outcomes.{lengths, Same};
-ghost use Rattle.history.specs.Calls.{Asked, kinds, no_said, said, yes_said};
+ghost use Rattle.board.specs.Lent.{lent, KeepsLengths};
+ghost use Rattle.board.specs.Outcomes.{Same};
+ghost use Rattle.history.specs.declared.event.Answer.TheVariants.{Done, Refused};
+ghost use Rattle.history.specs.Calls.{Asked, kinds, said};
 
 use crate::event::{Answer, Ask};
-use board::{Board, Closed};
+use board::{Board, Closed, Course, Memory, Rejected};
 use cuts::Cut;
 use places::PlaceSet;
 use rules::Rule;
-use settling::WakeUp;
 
-fn told(yes: bool) -> Answer
-    ensures { said result ≡ (if yes then yes_said else no_said) }
+// The board after a call that moves it to a stage, and the answer; a refused call leaves the board as it was.
+fn moved<S: Into<Closed>>(
+    outcome: Result<Board<S>, Rejected<Board<Closed>>>,
+) -> (Board<Closed>, Answer)
+    ensures { MatchResult outcome (λ next. (result.0.numbers ≡ next.numbers) × S.converts next.stage result.0.stage × (result.1 ≡ Done)) (λ e. (result.0 ≡ e.board) × (result.1 ≡ Refused e.refusal)) }
 {
-    if yes { Answer::Yes } else { Answer::No }
+    match outcome {
+        Ok(next) => (next.closed(), Answer::Done),
+        Err(rejected) => (rejected.board, Answer::Refused(rejected.refusal)),
+    }
 }
 
-// The board after the call, and the answer.
+// The board after the call, and the answer. Log, standing lists and group table come one by one: the law says what each holds at the end.
 pub fn ask<L: PlaceSet + Copy, R: Rule>(
     board: Board<Closed>,
-    opened: &[L],
-    rules: &[R],
+    course: Course<L, R>,
     log: &mut [Cut],
     standing: &mut [L],
     group: &mut [u16],
-    working: &mut [L],
-    numbers: &mut [u16],
-    wake_ups: &mut [WakeUp],
+    memory: &mut Memory<L>,
     asked: Ask,
 ) -> (Board<Closed>, Answer)
     ensures same { Same board.numbers board.numbers.rules result.0.numbers.cuts result.0.numbers }
-    ensures asked { Asked (kinds L.has L.limit R.scope R.admits R.lawful R.names) (held_by board.numbers) opened.now rules.now (lengths (length opened.now) (length rules.now) (length log.old) (length standing.old) (length group.old) (length working.old) (length numbers.old) (length wake_ups.old)) asked (said result.1) result.0.numbers.cuts log.old log.new board.stage result.0.stage standing.old standing.new group.old group.new }
+    ensures asked { Asked (kinds L.has L.LIMIT R.scope R.admits R.lawful R.names) (held_by board.numbers) course.entry.opened.now course.entry.rules.now (lent course.entry log.old (length standing.old) (length group.old) memory.old) asked (said result.1) result.0.numbers.cuts log.old log.new board.stage result.0.stage standing.old standing.new group.old group.new }
+    ensures memory { KeepsLengths memory.old memory.new }
 {
     match asked {
-        Ask::Cut(action, job, place) => match board.cut(log, action, job, place) {
-            Ok(next) => (next.closed(), Answer::Done),
-            Err(rejected) => (rejected.board, Answer::Refused(rejected.refusal)),
-        },
-        Ask::Return(k) => match board.return_to(log, k) {
-            Ok(next) => (next.closed(), Answer::Done),
-            Err(rejected) => (rejected.board, Answer::Refused(rejected.refusal)),
-        },
+        Ask::Cut(action, job, place) => moved(board.cut(log, action, job, place)),
+        Ask::Return(k) => moved(board.return_to(log, k)),
         Ask::Trial(job, place) => {
-            match board.trial(opened, rules, log, working, numbers, wake_ups, job, place) {
-                Ok(yes) => (board, told(yes)),
-                Err(refusal) => (board, Answer::Refused(refusal)),
-            }
+            let free = board.trial(course, log, memory, job, place);
+            (board, free.into())
         }
         Ask::Group(rule) => {
-            match board.group(opened, rules, log, group, working, numbers, wake_ups, rule) {
-                Ok(found) => (board, Answer::Group(found)),
-                Err(refusal) => (board, Answer::Refused(refusal)),
-            }
+            let found = board.group(course, log, group, memory, rule);
+            (board, found.into())
         }
-        Ask::Settle => {
-            match board.settle(opened, rules, log, standing, working, numbers, wake_ups) {
-                Ok(next) => (next.closed(), Answer::Done),
-                Err(rejected) => (rejected.board, Answer::Refused(rejected.refusal)),
-            }
-        }
+        Ask::Settle => moved(board.settle(course, log, standing, memory)),
     }
 }

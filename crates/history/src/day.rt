@@ -11,12 +11,11 @@ ghost use Rattle.history.specs.Runs.{Run};
 use crate::event::Event;
 use crate::offer::{Offer, make_offers};
 use crate::run::carry_out;
-use board::{Board, Closed, Filling};
+use board::{Board, Closed, Course, Filling, Memory};
 use cuts::Cut;
 use places::PlaceSet;
 use refusals::Refusal;
 use rules::Rule;
-use settling::WakeUp;
 
 // Why a day did not come to its calls.
 #[derive(Clone, Copy)]
@@ -36,25 +35,19 @@ pub fn run_day<L: PlaceSet + Copy, R: Rule + Copy>(
     log: &mut [Cut],
     standing: &mut [L],
     group: &mut [u16],
-    working: &mut [L],
-    numbers: &mut [u16],
-    wake_ups: &mut [WakeUp],
+    memory: &mut Memory<L>,
     events: &mut [Event],
 ) -> Result<Board<Closed>, DayRefusal>
-    ensures refusal { stopped result ≡ day_stop (open_refusal L.has L.limit n w opened.now) (close_refusal L.has L.limit R.lawful (filling n w (accepted_of offers.new)) opened.now rules.new) }
+    ensures refusal { stopped result ≡ day_stop (open_refusal L.has L.LIMIT n w opened.now) (close_refusal L.has L.LIMIT R.lawful (filling n w (accepted_of offers.new)) opened.now rules.new) }
     ensures offers { OffersLeft R.lawful n w offers.old offers.new rules.old rules.new result }
     ensures board { IfOk result (λ b. DayBoard n w (accepted_of offers.new) b.numbers) }
-    ensures run { MatchResult result (λ b. Run (kinds L.has L.limit R.scope R.admits R.lawful R.names) (setting n w opened.now (accepted_of offers.new) (lengths (length opened.now) (length rules.old) (length log.old) (length standing.old) (length group.old) (length working.old) (length numbers.old) (length wake_ups.old))) events.old events.new b.numbers.cuts log.old log.new b.stage standing.old standing.new group.old group.new) (λ _. (log.new ≡ log.old) × (standing.new ≡ standing.old) × (group.new ≡ group.old) × (events.new ≡ events.old)) }
+    ensures run { MatchResult result (λ b. Run (kinds L.has L.LIMIT R.scope R.admits R.lawful R.names) (setting n w opened.now (accepted_of offers.new) (lengths (length opened.now) (length rules.old) (length log.old) (length standing.old) (length group.old) (length memory.old.working.now) (length memory.old.numbers.now) (length memory.old.wake_ups.now))) events.old events.new b.numbers.cuts log.old log.new b.stage standing.old standing.new group.old group.new) (λ _. (log.new ≡ log.old) × (standing.new ≡ standing.old) × (group.new ≡ group.old) × (events.new ≡ events.old)) }
 {
-    let mut board = match Board::<Filling>::open(n, w, opened) {
-        Ok(board) => board,
-        Err(refusal) => return Err(DayRefusal::Opening(refusal)),
-    };
+    let mut board = Board::<Filling>::open(n, w, opened).map_err(DayRefusal::Opening)?;
     make_offers(&mut board, rules, offers);
-    match board.close(opened, rules) {
-        Ok(closed) => Ok(carry_out(
-            closed, opened, rules, log, standing, group, working, numbers, wake_ups, events,
-        )),
-        Err(rejected) => Err(DayRefusal::Closing(rejected.refusal)),
-    }
+    let course = Course { opened, rules };
+    let board = board
+        .close(course)
+        .map_err(|rejected| DayRefusal::Closing(rejected.refusal))?;
+    Ok(carry_out(board, course, log, standing, group, memory, events))
 }

@@ -1,14 +1,10 @@
 // Rules offered to a board that was just opened.
 ghost use Rattle.std.specs.Prelude.{◌≡◌, ◌≤◌, length, take};
 ghost use Rattle.board.specs.Outcomes.{Same};
-ghost use Rattle.history.specs.Calls.{outcome, said};
 ghost use Rattle.history.specs.Filling.{accepted_of, Filled, Offered};
-ghost use Rattle.refusals.specs.Codes.{refusal_of};
 
-use crate::call::front;
 use crate::event::Answer;
 use board::{Board, Filling};
-use refusals::Refusal;
 use rules::Rule;
 
 // A rule, how long a front of the rules table the call is lent, and the answer.
@@ -19,15 +15,6 @@ pub struct Offer<R> {
     pub answer: Answer,
 }
 
-fn answer_to(res: Result<(), Refusal>) -> Answer
-    ensures { said result ≡ outcome (refusal_of res) }
-{
-    match res {
-        Ok(()) => Answer::Done,
-        Err(refusal) => Answer::Refused(refusal),
-    }
-}
-
 // Offers one rule to the board, and writes the answer.
 fn make_offer<R: Rule + Copy>(board: &mut Board<Filling>, rules: &mut [R], offer: &mut Offer<R>)
     requires { board.old.numbers.rules ≤ length rules.old }
@@ -35,8 +22,8 @@ fn make_offer<R: Rule + Copy>(board: &mut Board<Filling>, rules: &mut [R], offer
     ensures offered { Offered R.lawful board.old.numbers.n board.old.numbers.w (take board.old.numbers.rules rules.old) rules.old offer.old offer.new board.new.numbers.rules rules.new }
 {
     let rule = offer.rule;
-    let lent = front(offer.lent, rules.len());
-    offer.answer = answer_to(board.add_rule(&mut rules[0..lent], rule));
+    let lent = offer.lent.min(rules.len());
+    offer.answer = board.add_rule(&mut rules[..lent], rule).into();
 }
 
 // Offers the rules in their order to a board that has none yet, and writes each answer beside its rule.

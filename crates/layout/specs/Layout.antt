@@ -1,7 +1,10 @@
 -- The layout of a sheet: blocks of 512 bytes, and what is wrong with one.
-use Rattle.std.specs.Prelude.{ℕ, zero, suc, ◌+◌, ◌-◌, ◌*◌, ◌/◌, ◌%◌, Bool, true, false, cond, List, [], ◌∷◌, length, Some, None, Option, ◌==◌, nat_le, nat_lt, slice_index}
+use Rattle.std.specs.Prelude.{◌≡◌, ℕ, zero, suc, ◌+◌, ◌-◌, ◌*◌, ◌/◌, ◌%◌, Bool, true, not, ◌&&◌, if◌then◌else◌, List, [], ◌∷◌, length, Some, None, Option, Result, MatchResult, ◌==◌, nat_le, nat_lt, slice_index}
+use Rattle.layout.specs.declared.letter.Letter.{Letter}
+use Rattle.layout.specs.declared.letter.Letter.TheVariants.{Header, Lists, Rules, Cuts, End}
+use Rattle.layout.specs.declared.letter.NoLetter.{NoLetter}
 use Rattle.layout.specs.declared.fault.BlockFault.{BlockFault}
-use Rattle.layout.specs.declared.fault.BlockFault.TheVariants.{Check, Position, Letter, Count, Padding}
+use Rattle.layout.specs.declared.fault.BlockFault.TheVariants.{Check, Position, Letter as WrongLetter, Count, Padding}
 use Rattle.layout.specs.declared.fault.LayoutFault.{LayoutFault}
 use Rattle.layout.specs.declared.fault.LayoutFault.TheVariants.{Length, Block}
 
@@ -20,29 +23,57 @@ weighted s at (suc i) = weighted s at i + (i + 1) * slice_index s (at + i)
 -- whether the n bytes from `at` are zero
 unfoldable pub zeros : List ℕ → ℕ → ℕ → Bool
 zeros s at zero = true
-zeros s at (suc n) = cond (slice_index s at == 0) (zeros s (at + 1) n) false
+zeros s at (suc n) = slice_index s at == 0 && zeros s (at + 1) n
 
 -- the place of a block's letter in the order H, L, R, C, E; 5 for any other byte
 abbrev pub rank : ℕ → ℕ
-rank b = cond (b == 72) 0 (cond (b == 76) 1 (cond (b == 82) 2 (cond (b == 67) 3 (cond (b == 69) 4 5))))
+rank b =
+    if b == 72 then 0
+    else if b == 76 then 1
+    else if b == 82 then 2
+    else if b == 67 then 3
+    else if b == 69 then 4
+    else 5
+
+-- the rank of a letter
+abbrev pub rank_of : Letter → ℕ
+rank_of Header = 0
+rank_of Lists = 1
+rank_of Rules = 2
+rank_of Cuts = 3
+rank_of End = 4
+
+-- the rank of a letter, and 5 where there is none
+abbrev pub option_rank : Option Letter → ℕ
+option_rank None = 5
+option_rank (Some letter) = rank_of letter
+
+-- the result is the letter that a byte stands for, or the byte where it stands for none
+abbrev pub IsLetterOf : ℕ → Result Letter NoLetter → Type 0
+IsLetterOf b r = MatchResult r (λ letter. rank_of letter ≡ rank b) (λ e. (e.0 ≡ b) × (rank b ≡ 5))
 
 -- the length of a record by the rank of its letter, and the most records in a block
 abbrev pub record_length : ℕ → ℕ
-record_length r = cond (r == 0) 5 (cond (r == 1) 24 (cond (r == 4) 0 8))
+record_length r = if r == 0 then 5 else if r == 1 then 24 else if r == 4 then 0 else 8
 
 abbrev pub allows : ℕ → ℕ → Bool
-allows r n = cond (r == 0) (n == 1) (cond (r == 1) (nat_le n 21) (cond (r == 4) (n == 0) (nat_le n 63)))
+allows r n =
+    if r == 0 then n == 1
+    else if r == 1 then nat_le n 21
+    else if r == 4 then n == 0
+    else nat_le n 63
 
 -- whether a letter of rank r may stand at block k of n, after one of rank p
 abbrev pub may_stand : ℕ → ℕ → ℕ → ℕ → Bool
 may_stand n k p r =
-    cond (k == 0) (cond (r == 0) (nat_lt 1 n) false)
-    (cond (k + 1 == n) (r == 4) (cond (nat_lt 0 r) (cond (nat_lt r 4) (nat_le p r) false) false))
+    if k == 0 then r == 0 && nat_lt 1 n
+    else if k + 1 == n then r == 4
+    else nat_lt 0 r && nat_lt r 4 && nat_le p r
 
 -- the first number whose test fails
 abbrev pub first_failed : List (ℕ × Bool) → Option ℕ
 first_failed [] = None
-first_failed ((n, ok) ∷ rest) = cond ok (first_failed rest) (Some n)
+first_failed ((n, ok) ∷ rest) = if ok then first_failed rest else Some n
 
 abbrev pub blocks : List ℕ → ℕ
 blocks s = length s / 512
@@ -93,17 +124,17 @@ fault_from s k zero = None
 fault_from s k (suc n) = fault_or (fault_in s k) k (fault_from s (k + 1) n)
 
 abbrev pub right_length : ℕ → Bool
-right_length n = cond (n == 0) false (cond (nat_le n 32768) (n % 512 == 0) false)
+right_length n = not (n == 0) && nat_le n 32768 && n % 512 == 0
 
 -- the first fault of a sheet's layout
 unfoldable pub layout_refusal : List ℕ → Option (ℕ × ℕ)
-layout_refusal s = cond (right_length (length s)) (fault_from s 0 (blocks s)) (Some (1, 0))
+layout_refusal s = if right_length (length s) then fault_from s 0 (blocks s) else Some (1, 0)
 
 -- the number of a block's fault
 abbrev pub block_code : BlockFault → ℕ
 block_code Check = 2
 block_code Position = 3
-block_code Letter = 4
+block_code WrongLetter = 4
 block_code Count = 5
 block_code Padding = 6
 

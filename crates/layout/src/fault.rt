@@ -1,5 +1,8 @@
 // What can be wrong with the layout of a sheet.
-pub const BLOCK: usize = 512;
+ghost use Rattle.std.specs.Prelude.{◌≡◌};
+ghost use Rattle.layout.specs.declared.fault.BlockFault.TheVariants.{Letter};
+
+use crate::letter::NoLetter;
 
 // What is wrong with a block, in checking order.
 #[derive(Clone, Copy, Debug, PartialEq, Eq)]
@@ -16,4 +19,12 @@ pub enum BlockFault {
 pub enum LayoutFault {
     Length,
     Block(usize, BlockFault),
+}
+
+impl From<NoLetter> for BlockFault {
+    ghost from_gives = { λ _ fault. fault ≡ Letter };
+
+    fn from(_byte: NoLetter) -> Self {
+        BlockFault::Letter
+    }
 }

@@ -1,55 +1,76 @@
 // The letters of blocks: where each may stand, and what its records are.
 ghost use Rattle.std.specs.Prelude.{◌≡◌, ◌<◌};
-ghost use Rattle.layout.specs.Layout.{rank, record_length, allows, may_stand};
+ghost use Rattle.layout.specs.Layout.{IsLetterOf, rank_of, option_rank, record_length, allows, may_stand};
 
-// The place of a block's letter in the order H, L, R, C, E; 5 for any other byte.
-pub fn letter_rank(letter: u8) -> u8
-    ensures { result ≡ rank letter }
-{
-    match letter {
-        b'H' => 0,
-        b'L' => 1,
-        b'R' => 2,
-        b'C' => 3,
-        b'E' => 4,
-        _ => 5,
+// The letter of a block. Blocks stand in a sheet in this order.
+#[derive(Clone, Copy, Debug, PartialEq, Eq, PartialOrd, Ord)]
+pub enum Letter {
+    Header,
+    Lists,
+    Rules,
+    Cuts,
+    End,
+}
+
+// A byte that is no letter.
+#[derive(Clone, Copy, Debug, PartialEq, Eq)]
+pub struct NoLetter(pub u8);
+
+impl TryFrom<u8> for Letter {
+    type Error = NoLetter;
+
+    ghost try_from_gives = { IsLetterOf };
+
+    fn try_from(byte: u8) -> Result<Self, NoLetter> {
+        match byte {
+            b'H' => Ok(Letter::Header),
+            b'L' => Ok(Letter::Lists),
+            b'R' => Ok(Letter::Rules),
+            b'C' => Ok(Letter::Cuts),
+            b'E' => Ok(Letter::End),
+            _ => Err(NoLetter(byte)),
+        }
     }
 }
 
-// The length of a record, by the rank of its block's letter.
-pub fn record_size(rank: u8) -> usize
-    ensures { result ≡ record_length rank }
-{
-    match rank {
-        0 => 5,
-        1 => 24,
-        4 => 0,
-        _ => 8,
+impl Letter {
+    // The length of a record in a block of this letter.
+    pub fn record_size(self) -> usize
+        ensures { result ≡ record_length (rank_of self) }
+    {
+        match self {
+            Letter::Header => 5,
+            Letter::Lists => 24,
+            Letter::Rules | Letter::Cuts => 8,
+            Letter::End => 0,
+        }
     }
-}
 
-// Whether a block whose letter has this rank may have `n` records.
-pub fn count_allowed(rank: u8, n: u8) -> bool
-    ensures { result ≡ allows rank n }
-{
-    match rank {
-        0 => n == 1,
-        1 => n <= 21,
-        4 => n == 0,
-        _ => n <= 63,
+    // Whether a block of this letter may have `n` records.
+    pub fn allows(self, n: u8) -> bool
+        ensures { result ≡ allows (rank_of self) n }
+    {
+        match self {
+            Letter::Header => n == 1,
+            Letter::Lists => n <= 21,
+            Letter::Rules | Letter::Cuts => n <= 63,
+            Letter::End => n == 0,
+        }
     }
-}
 
-// Whether a letter of this rank may stand at block `k` of `n`, after one of rank `before`.
-pub fn letter_stands(n: usize, k: usize, before: u8, rank: u8) -> bool
-    requires { k < n }
-    ensures { result ≡ may_stand n k before rank }
-{
-    if k == 0 {
-        rank == 0 && n > 1
-    } else if k + 1 == n {
-        rank == 4
-    } else {
-        rank > 0 && rank < 4 && before <= rank
+    // Whether a block of this letter may be block `k` of `n`, after one of letter `before`.
+    pub fn may_stand(self, k: usize, n: usize, before: Option<Letter>) -> bool
+        requires { k < n }
+        ensures { result ≡ may_stand n k (option_rank before) (rank_of self) }
+    {
+        if k == 0 {
+            self == Letter::Header && n > 1
+        } else if k + 1 == n {
+            self == Letter::End
+        } else {
+            Letter::Header < self
+                && self < Letter::End
+                && before.is_some_and(|before| before <= self)
+        }
     }
 }

@@ -5,7 +5,8 @@ mod block;
 mod bytes;
 mod fault;
 mod letter;
+mod parts;
 mod sheet;
 
 pub use fault::{BlockFault, LayoutFault};
-pub use sheet::layout_fault;
+pub use sheet::check_layout;

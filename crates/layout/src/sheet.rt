@@ -1,23 +1,31 @@
 // The layout of a sheet: 1 to 64 blocks of 512 bytes.
 ghost use Rattle.std.specs.Prelude.{◌≡◌};
 ghost use Rattle.std.specs.Option.{option_map};
+ghost use Rattle.std.specs.Result.{result_err};
 ghost use Rattle.layout.specs.Layout.{layout_refusal, layout_code};
 
-use crate::block::block_fault;
-use crate::fault::{BLOCK, LayoutFault};
+use crate::block::Block;
+use crate::fault::LayoutFault;
+use crate::parts::{BLOCK, MOST_BLOCKS};
 
-// The first fault of a sheet's layout, if it has one.
-pub fn layout_fault(bytes: &[u8]) -> Option<LayoutFault>
-    ensures { option_map layout_code result ≡ layout_refusal bytes.now }
+// The first fault of a sheet's layout, if it has one, is the error.
+#[tactic(auto, using(crate::proofs::Laws::fault_none, crate::proofs::Laws::fault_step), unfolding(crate::specs::Layout::layout_refusal))]
+pub fn check_layout(bytes: &[u8]) -> Result<(), LayoutFault>
+    ensures { option_map layout_code (result_err result) ≡ layout_refusal bytes.now }
 {
     let n = bytes.len();
-    if n == 0 || n > 64 * BLOCK || n % BLOCK != 0 {
-        return Some(LayoutFault::Length);
+    if n == 0 || n > MOST_BLOCKS * BLOCK || n % BLOCK != 0 {
+        return Err(LayoutFault::Length);
     }
-    for k in 0..n / BLOCK {
-        if let Some(fault) = block_fault(bytes, k) {
-            return Some(LayoutFault::Block(k, fault));
-        }
+    // By number: which letter may stand depends on the block before.
+    for number in 0..n / BLOCK {
+        let block = Block {
+            sheet: bytes,
+            number,
+        };
+        block
+            .check()
+            .map_err(|fault| LayoutFault::Block(number, fault))?;
     }
-    None
+    Ok(())
 }

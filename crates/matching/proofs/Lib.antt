@@ -1,3 +1,4 @@
 pub mod Searching
 pub mod Shifts
 pub mod Tables
+pub mod Finds

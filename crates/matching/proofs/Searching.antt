@@ -1,10 +1,8 @@
 -- The steps of a search from all jobs without a place.
-use Rattle.std.proofs.Common.{◌≡◌, ℕ, suc, ◌+◌, ◌<◌, ◌≤◌, Bool, true, false, not, ◌&&◌, ◌||◌, eqb, ◌≢◌, ◌⊎◌, List, [], ◌∷◌, ◌++◌, length, set, sym, refl, ap, ◌∙◌, subst, subst₂, inl, inr, arith, length-append, length-drop, length-set, length-take, get_or-set_other, get_or-set_same, eq-eqb, ne_eqb, eqb-true}
+use Rattle.std.proofs.Common.{◌≡◌, ℕ, suc, ◌+◌, ◌<◌, ◌≤◌, Bool, true, false, not, ◌&&◌, ◌||◌, nat_eq, ◌≢◌, ◌⊎◌, List, [], ◌∷◌, ◌++◌, length, slice_set, sym, refl, ap, ◌∙◌, subst, subst₂, inl, inr, arith, length-append, length-set, get_or-set_other, eq-eqb, ne_eqb, eqb-true}
+use Rattle.std.proofs.Math.Bool.{or-false, or_assoc}
 use native.Mathlib.Decide.{ℕ_discrete, dec_lt}
 use borrow.Author.Tests.{not-true}
-use Rattle.queue.specs.declared.RingQueue.{RingQueue}
-use Rattle.queue.specs.Ring.{entries}
-use Rattle.queue.specs.Ring as ring
 use Rattle.theory.specs.Counts.{bit, sum, count}
 use Rattle.theory.specs.Assignments.{put, with}
 use Rattle.theory.specs.SingleRows.{single}
@@ -22,29 +20,18 @@ use Rattle.matching.proofs.Shifts.{held_tight}
 
 -- ---- queues
 
-pub entries_length : (q : RingQueue) (slots : List ℕ) → ring.Ready q (length slots) → length (entries q slots) ≡ q.len
-entries_length q slots r = simp (length-take, length-append, length-drop) (omega (arith, r.head_within, r.len_within))
-
-member_push : (xs : List ℕ) (k j : ℕ) → member (xs ++ k ∷ []) j ≡ (member xs j || eqb j k)
-member_push [] k j = or_none (eqb j k)
-  where
-    or_none : (b : Bool) → (b || false) ≡ b
-    or_none true = refl
-    or_none false = refl
-member_push (x ∷ xs) k j = ap (λ (b : Bool). eqb j x || b) (member_push xs k j) ∙ or_assoc (eqb j x) (member xs j) (eqb j k)
-  where
-    or_assoc : (a b c : Bool) → (a || (b || c)) ≡ ((a || b) || c)
-    or_assoc true b c = refl
-    or_assoc false b c = refl
+member_push : (xs : List ℕ) (k j : ℕ) → member (xs ++ k ∷ []) j ≡ (member xs j || nat_eq j k)
+member_push [] k j = or-false (nat_eq j k)
+member_push (x ∷ xs) k j = ap (λ (b : Bool). nat_eq j x || b) (member_push xs k j) ∙ sym (or_assoc (nat_eq j x) (member xs j) (nat_eq j k))
 
 pub pushed_here : (xs : List ℕ) (k : ℕ) → member (xs ++ k ∷ []) k ≡ true
 pushed_here xs k = member_push xs k k ∙ or_right (member xs k) (eq-eqb k k refl)
 
 pub pushed_has : (xs : List ℕ) (k j : ℕ) → member xs j ≡ true → member (xs ++ k ∷ []) j ≡ true
-pushed_has xs k j h = member_push xs k j ∙ or_left (eqb j k) h
+pushed_has xs k j h = member_push xs k j ∙ or_left (nat_eq j k) h
 
 pub pushed_is : (xs : List ℕ) (k j : ℕ) → member (xs ++ k ∷ []) j ≡ true → (member xs j ≡ true) ⊎ (j ≡ k)
-pushed_is xs k j h = elim (or_cases (member xs j) (eqb j k) (sym (member_push xs k j) ∙ h)) [ inl a ↦ inl a | inr b ↦ inr (eqb-true j k b) ]
+pushed_is xs k j h = elim (or_cases (member xs j) (nat_eq j k) (sym (member_push xs k j) ∙ h)) [ inl a ↦ inl a | inr b ↦ inr (eqb-true j k b) ]
 
 pub pushed_not : (xs : List ℕ) (k j : ℕ) → member (xs ++ k ∷ []) j ≡ false → member xs j ≡ false
 pushed_not xs k j h = elim (cases (member xs j)) [ inl a ↦ absurd (clash (pushed_has xs k j a) h) | inr b ↦ b ]
@@ -54,55 +41,45 @@ seen_few xs m = omega (arith, count_most (filled xs) m)
 
 -- ---- the start
 
-pub rooted_none : (places parents : List ℕ) → Rooted 0 places parents []
-rooted_none places parents = record {
-  marks = λ k l. absurd (omega arith);
-  waits = λ k l e. absurd (omega arith);
-  only = λ k e. absurd (clash e refl);
-  room = omega arith;
-}
-
-at_kept : (xs : List ℕ) (n v k : ℕ) → k < n → at (set xs n v) k ≡ at xs k
+at_kept : (xs : List ℕ) (n v k : ℕ) → k < n → at (slice_set xs n v) k ≡ at xs k
 at_kept xs n v k l = get_or-set_other xs n k v 0 (λ e. omega (arith, e, l))
 
-filled_kept : (xs : List ℕ) (n v k : ℕ) → k < n → filled (set xs n v) k ≡ filled xs k
-filled_kept xs n v k l = ap (λ (x : ℕ). not (eqb x 65535)) (at_kept xs n v k l)
+filled_kept : (xs : List ℕ) (n v k : ℕ) → k < n → filled (slice_set xs n v) k ≡ filled xs k
+filled_kept xs n v k l = ap (λ (x : ℕ). not (nat_eq x 65535)) (at_kept xs n v k l)
 
-count_kept : (xs : List ℕ) (n v : ℕ) → count (filled (set xs n v)) n ≡ count (filled xs) n
-count_kept xs n v = sum_eq (λ k. bit (filled (set xs n v) k)) (λ k. bit (filled xs k)) n (λ k l. ap bit (filled_kept xs n v k l))
+count_kept : (xs : List ℕ) (n v : ℕ) → count (filled (slice_set xs n v)) n ≡ count (filled xs) n
+count_kept xs n v = sum_eq (λ k. bit (filled (slice_set xs n v) k)) (λ k. bit (filled xs k)) n (λ k l. ap bit (filled_kept xs n v k l))
 
 below_next : (P : ℕ → Type 0) (n k : ℕ) → k < suc n → (k < n → P k) → P n → P k
 below_next P n k l f h = elim (ℕ_discrete k n) [ yes e ↦ subst P (sym e) h | no ne ↦ f (omega arith) ]
 
 -- a job without a place waits
 pub rooted_waits : (n v : ℕ) (places parents waiting : List ℕ) → Rooted n places parents waiting → n < length parents → v ≢ 65535 → at places n ≡ 65535
-    → Rooted (suc n) places (set parents n v) (waiting ++ n ∷ [])
+    → Rooted (suc n) places (slice_set parents n v) (waiting ++ n ∷ [])
 unfolding sum
 rooted_waits n v places parents waiting r l ne e =
-    let here : filled (set parents n v) n ≡ true = ap (λ (A : ℕ → Bool). A n) (filled_set parents n v l ne) ∙ with_same (filled parents) n in
+    let here : filled (slice_set parents n v) n ≡ true = ap (λ (A : ℕ → Bool). A n) (filled_set parents n v l ne) ∙ with_same (filled parents) n in
     record {
-      marks = λ k lk. below_next (λ j. filled (set parents n v) j ≡ not (filled places j)) n k lk (λ b. filled_kept parents n v k b ∙ r.marks k b) (here ∙ sym (ap not (none_filled places n e)));
-      waits = λ k lk h. below_next (λ j. filled (set parents n v) j ≡ true → member (waiting ++ n ∷ []) j ≡ true) n k lk
+      marks = λ k lk. below_next (λ j. filled (slice_set parents n v) j ≡ not (filled places j)) n k lk (λ b. filled_kept parents n v k b ∙ r.marks k b) (here ∙ sym (ap not (none_filled places n e)));
+      waits = λ k lk h. below_next (λ j. filled (slice_set parents n v) j ≡ true → member (waiting ++ n ∷ []) j ≡ true) n k lk
           (λ b g. pushed_has waiting n k (r.waits k b (sym (filled_kept parents n v k b) ∙ g))) (λ g. pushed_here waiting n) h;
       only = λ k h. elim (pushed_is waiting n k h) [
         | inl a ↦ let (b, f) = r.only k a in (omega arith, filled_kept parents n v k b ∙ f)
-        | inr q ↦ (omega (arith, q), ap (filled (set parents n v)) q ∙ here)
+        | inr q ↦ (omega (arith, q), ap (filled (slice_set parents n v)) q ∙ here)
       ];
       room = simp length-append (omega (arith, r.room, count_kept parents n v, ap bit here));
     }
 
 -- a job with a place does not
-pub rooted_passes : (n : ℕ) (places parents waiting : List ℕ) → Rooted n places parents waiting → n < length parents → at places n ≢ 65535
-    → Rooted (suc n) places (set parents n 65535) waiting
+pub rooted_passes : (n : ℕ) (places parents waiting : List ℕ) → Rooted n places parents waiting → at parents n ≡ 65535 → at places n ≢ 65535 → Rooted (suc n) places parents waiting
 unfolding sum
-rooted_passes n places parents waiting r l ne =
-    let here : filled (set parents n 65535) n ≡ false = none_filled (set parents n 65535) n (get_or-set_same parents n 65535 0 l) in
+rooted_passes n places parents waiting r e ne =
+    let here : filled parents n ≡ false = none_filled parents n e in
     record {
-      marks = λ k lk. below_next (λ j. filled (set parents n 65535) j ≡ not (filled places j)) n k lk (λ b. filled_kept parents n 65535 k b ∙ r.marks k b) (here ∙ sym (ap not (some_filled places n ne)));
-      waits = λ k lk h. below_next (λ j. filled (set parents n 65535) j ≡ true → member waiting j ≡ true) n k lk
-          (λ b g. r.waits k b (sym (filled_kept parents n 65535 k b) ∙ g)) (λ g. absurd (clash g here)) h;
-      only = λ k h. let (b, f) = r.only k h in (omega arith, filled_kept parents n 65535 k b ∙ f);
-      room = omega (arith, r.room, count_kept parents n 65535, ap bit here);
+      marks = λ k lk. below_next (λ j. filled parents j ≡ not (filled places j)) n k lk (λ b. r.marks k b) (here ∙ sym (ap not (some_filled places n ne)));
+      waits = λ k lk h. below_next (λ j. filled parents j ≡ true → member waiting j ≡ true) n k lk (λ b. r.waits k b) (λ g. absurd (clash g here)) h;
+      only = λ k h. let (b, f) = r.only k h in (omega arith, f);
+      room = omega (arith, r.room, ap bit here);
     }
 
 pub rooted_searching : (m w : ℕ) (holds : ℕ → ℕ → Bool) (places holders parents waiting : List ℕ) → m ≤ length parents → Rooted m places parents waiting
@@ -125,7 +102,7 @@ module _ (m w : ℕ) (holds : ℕ → ℕ → Bool) (places holders parents : Li
     parents_fit = s.parents_fit;
     grown = s.grown;
     roots = s.roots;
-    queued = λ j h. s.queued j (or_right (eqb j job) h);
+    queued = λ j h. s.queued j (or_right (nat_eq j job) h);
     room = omega (arith, s.room);
     scanned = λ j p lj f n h low. s.scanned j p lj f (ap (λ (b : Bool). b || member rest j) (ne_eqb j job (λ e. omega (arith, low e))) ∙ n) h (λ e. absurd (omega arith));
   }
@@ -168,11 +145,11 @@ module _ (m w : ℕ) (holds : ℕ → ℕ → Bool) (places holders parents : Li
 
     -- a holder that was not seen waits
     pub searching_visits : (k : ℕ) → job < m → filled parents job ≡ true → job ≢ 65535 → k < m → filled parents k ≡ false → filled places k ≡ true → holds job (at places k) ≡ true
-        → Searching m w holds places holders (set parents k job) (waiting ++ k ∷ []) job from
+        → Searching m w holds places holders (slice_set parents k job) (waiting ++ k ∷ []) job from
     searching_visits k lj sj nj lk sk pk h =
         let lt : k < length parents = omega (arith, s.parents_fit) in
-        let now : filled (set parents k job) ≡ with (filled parents) k = filled_set parents k job lt nj in
-        let has : (x : ℕ) → filled parents x ≡ true → filled (set parents k job) x ≡ true = λ x e. ap (λ (A : ℕ → Bool). A x) now ∙ with_has (filled parents) k x e in
+        let now : filled (slice_set parents k job) ≡ with (filled parents) k = filled_set parents k job lt nj in
+        let has : (x : ℕ) → filled parents x ≡ true → filled (slice_set parents k job) x ≡ true = λ x e. ap (λ (A : ℕ → Bool). A x) now ∙ with_has (filled parents) k x e in
         record {
           parents_fit = simp length-set s.parents_fit;
           grown = (
@@ -193,10 +170,10 @@ module _ (m w : ℕ) (holds : ℕ → ℕ → Bool) (places holders parents : Li
           ];
         }
 
-    pub left_same : (k : ℕ) → k < m → job ≢ 65535 → filled parents k ≡ false → left m (set parents k job) (waiting ++ k ∷ []) ≡ left m parents waiting
+    pub left_same : (k : ℕ) → k < m → job ≢ 65535 → filled parents k ≡ false → left m (slice_set parents k job) (waiting ++ k ∷ []) ≡ left m parents waiting
     left_same k lk nj sk =
         let lt : k < length parents = omega (arith, s.parents_fit) in
-        simp length-append (omega (arith, ap (λ (A : ℕ → Bool). count A m) (filled_set parents k job lt nj), count_with (filled parents) k m lk sk, seen_few (set parents k job) m))
+        simp length-append (omega (arith, ap (λ (A : ℕ → Bool). count A m) (filled_set parents k job lt nj), count_with (filled parents) k m lk sk, seen_few (slice_set parents k job) m))
 
     -- while a job was not seen, the queue has room
     pub queue_room : (k : ℕ) → k < m → filled parents k ≡ false → length waiting < m
@@ -223,7 +200,7 @@ matched_none m w holds places holders lp lh hp hh = record {
   valid = record {
     held = λ i l e. absurd (clash e (none i l));
     within = λ i l e. absurd (clash e (none i l));
-    fits = λ p l. omega (arith, sum_zero (λ k. bit (filled places k && eqb (at places k) p)) m (λ k lk. ap (λ (b : Bool). bit (b && eqb (at places k) p)) (none k lk)));
+    fits = λ p l. omega (arith, sum_zero (λ k. bit (filled places k && nat_eq (at places k) p)) m (λ k lk. ap (λ (b : Bool). bit (b && nat_eq (at places k) p)) (none k lk)));
   };
   taken = λ i l e. absurd (clash e (none i l));
   back = λ p l ne. absurd (ne (hh p (omega arith)));
@@ -232,33 +209,25 @@ matched_none m w holds places holders lp lh hp hh = record {
     none : (i : ℕ) → i < m → filled places i ≡ false
     none i l = none_filled places i (hp i (omega arith))
 
--- one place of a job is scanned: its holder was seen, or waits now
-pub scan_step : (m w : ℕ) (holds : ℕ → ℕ → Bool) (places holders parents waiting parents' waiting' : List ℕ) (job from p k : ℕ) → Matched m w holds places holders
+-- who has a place
+pub holder_job : (m w : ℕ) (holds : ℕ → ℕ → Bool) (places holders : List ℕ) (p k : ℕ) → Matched m w holds places holders → p < w → at holders p ≡ k → k ≢ 65535
+    → (k < m) × (filled places k ≡ true) × (at places k ≡ p)
+holder_job m w holds places holders p k t lp e ne =
+    subst (λ (i : ℕ). (i < m) × (filled places i ≡ true) × (at places i ≡ p)) e (t.back p lp (λ z. ne (sym e ∙ z)))
+
+-- a place is scanned whose holder was not seen, and waits now
+pub scan_visits : (m w : ℕ) (holds : ℕ → ℕ → Bool) (places holders parents waiting : List ℕ) (job from p k : ℕ) → Matched m w holds places holders
     → Searching m w holds places holders parents waiting job from → job < m → m ≤ 65535 → filled parents job ≡ true
-    → p < w → holds job p ≡ true → ((q : ℕ) → from ≤ q → q < p → holds job q ≡ false) → at holders p ≡ k → k ≢ 65535
-    → ((filled parents k ≡ true) × (parents' ≡ parents) × (waiting' ≡ waiting)) ⊎ ((filled parents k ≡ false) × (parents' ≡ set parents k job) × (waiting' ≡ waiting ++ k ∷ []))
-    → Searching m w holds places holders parents' waiting' job (p + 1) × (filled parents' job ≡ true) × (left m parents' waiting' ≤ left m parents waiting)
-scan_step m w holds places holders parents waiting parents' waiting' job from p k t s lj few sj lp h none e ne (inl (f, a, b)) =
-    subst₂ (λ (x y : List ℕ). Searching m w holds places holders x y job (p + 1) × (filled x job ≡ true) × (left m x y ≤ left m parents waiting)) (sym a) (sym b) (
-      scanned_more m w holds places holders parents waiting job from s p none (λ z. ne (sym e ∙ z)) (ap (filled parents) e ∙ f),
-      sj,
-      omega arith,
-    )
-scan_step m w holds places holders parents waiting parents' waiting' job from p k t s lj few sj lp h none e ne (inr (f, a, b)) =
-    let (lk, pk, back) = t.back p lp (λ z. ne (sym e ∙ z)) in
-    let lk' : k < m = omega (arith, lk, e) in
+    → p < w → holds job p ≡ true → ((q : ℕ) → from ≤ q → q < p → holds job q ≡ false) → at holders p ≡ k → k ≢ 65535 → filled parents k ≡ false
+    → Searching m w holds places holders (slice_set parents k job) (waiting ++ k ∷ []) job (p + 1) × (filled (slice_set parents k job) job ≡ true)
+    × (left m (slice_set parents k job) (waiting ++ k ∷ []) ≤ left m parents waiting)
+scan_visits m w holds places holders parents waiting job from p k t s lj few sj lp h none e ne f =
+    let (lk, pk, back) = holder_job m w holds places holders p k t lp e ne in
     let nj : job ≢ 65535 = λ z. omega arith in
-    let pk' : filled places k ≡ true = sym (ap (filled places) e) ∙ pk in
-    let hk : holds job (at places k) ≡ true = ap (holds job) (sym (ap (at places) e) ∙ back) ∙ h in
-    let now : filled (set parents k job) ≡ with (filled parents) k = filled_set parents k job (omega (arith, s.parents_fit)) nj in
-    subst₂ (λ (x y : List ℕ). Searching m w holds places holders x y job (p + 1) × (filled x job ≡ true) × (left m x y ≤ left m parents waiting)) (sym a) (sym b) (
-      scanned_more m w holds places holders (set parents k job) (waiting ++ k ∷ []) job from
-          (searching_visits m w holds places holders parents waiting job from s k lj sj nj lk' f pk' hk) p none (λ z. ne (sym e ∙ z))
+    let now : filled (slice_set parents k job) ≡ with (filled parents) k = filled_set parents k job (omega (arith, s.parents_fit)) nj in (
+      scanned_more m w holds places holders (slice_set parents k job) (waiting ++ k ∷ []) job from
+          (searching_visits m w holds places holders parents waiting job from s k lj sj nj lk f pk (ap (holds job) back ∙ h)) p none (λ z. ne (sym e ∙ z))
           (ap (λ (A : ℕ → Bool). A (at holders p)) now ∙ ap (with (filled parents) k) e ∙ with_same (filled parents) k),
       ap (λ (A : ℕ → Bool). A job) now ∙ with_has (filled parents) k job sj,
-      omega (arith, left_same m w holds places holders parents waiting job from s k lk' nj f),
+      omega (arith, left_same m w holds places holders parents waiting job from s k lk nj f),
     )
-
--- a queue whose entries are fewer than m has room
-pub enough : (m : ℕ) (q : RingQueue) (slots : List ℕ) → ring.Ready q (length slots) → m ≤ length slots → length (entries q slots) < m → q.len < length slots
-enough m q slots r l h = omega (arith, entries_length q slots r)

@@ -1,4 +1,5 @@
 pub mod Tables
 pub mod Matched
 pub mod Searching
-pub mod Shifting
+pub mod Matching
+pub mod MatchingMut

@@ -8,4 +8,4 @@ mod search;
 
 pub use bipartite::Bipartite;
 pub use jobs::match_jobs;
-pub use matching::{Matching, NONE};
+pub use matching::{Matching, NONE, entry};

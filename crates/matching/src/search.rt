@@ -1,119 +1,102 @@
 // A breadth-first search from all jobs without a place for one that can be given a place.
-ghost use Rattle.std.specs.Prelude.{◌≡◌, ◌<◌, ◌≤◌, true, [], ◌∷◌, ◌++◌, length, MatchOption, slice_set};
-ghost use Rattle.queue.specs.Ring.{entries, Ready};
-ghost use Rattle.matching.specs.Tables.{filled};
-ghost use Rattle.matching.specs.Matched.{Matched, Stalled};
-ghost use Rattle.matching.specs.Searching.{left, Searching, Rooted, Found};
+ghost use Rattle.std.specs.Prelude.{◌≡◌, ℕ, ◌<◌, ◌≤◌, true, [], ◌∷◌, ◌++◌, length, MatchOption, slice_set};
+ghost use Rattle.matching.specs.Tables.{at, filled};
+ghost use Rattle.matching.specs.Matching.{HasOpening, IsSearched, IsStalled};
+ghost use Rattle.matching.specs.Searching.{left, Rooted};
 
 use crate::bipartite::Bipartite;
-use crate::matching::{Matching, NONE};
+use crate::matching::{Matching, NONE, Opening};
+use places::PlaceSet;
 use queue::RingQueue;
 
-// A job that was seen, and a free place that it can take.
-#[derive(Clone, Copy)]
-pub struct Opening {
-    pub job: u16,
-    pub place: u16,
+// How far a search has come: the job from which each job was first seen, or NONE, and the jobs that are still to be scanned.
+#[derive(Drop)]
+struct Frontier<'a, 'b> {
+    parents: &'a mut [u16],
+    // Lent too: a struct that owned it would leave the proof of `search` without what the parents are in the end.
+    waiting: &'a mut RingQueue<'b, u16>,
 }
 
-// Whether the search has come to a job.
-fn is_seen(parents: &[u16], job: u16) -> bool
-    requires { job < length parents.now }
-    ensures { result ≡ filled parents.now job }
-{
-    parents[job as usize] != NONE
-}
+impl<'a, 'b> Frontier<'a, 'b> {
+    fn has_seen(&self, job: u16) -> bool
+        requires { job < length self.now.parents.now }
+        ensures { result ≡ filled self.now.parents.now job }
+    {
+        self.parents[job as usize] != NONE
+    }
 
-// Lets a job wait behind the others.
-fn enqueue(queue: &mut RingQueue, slots: &mut [u16], job: u16)
-    requires ready { Ready queue.old (length slots.old) }
-    requires room { queue.old.len < length slots.old }
-    ensures ready { Ready queue.new (length slots.new) }
-    ensures waits { entries queue.new slots.new ≡ entries queue.old slots.old ++ job ∷ [] }
-{
-    let _pushed = queue.push_back(slots, job);
-}
+    // Marks a job as seen from `parent`, and lets it wait behind the others.
+    fn visit(&mut self, job: u16, parent: u16)
+        requires job { job < length self.old.parents.now }
+        requires room { length self.old.waiting.now.entries < self.old.waiting.now.capacity }
+        ensures same { self.new.parents.ghost_name ≡ self.old.parents.ghost_name }
+        ensures marks { self.new.parents.now ≡ slice_set self.old.parents.now job parent }
+        ensures waits { self.new.waiting.now.entries ≡ self.old.waiting.now.entries ++ job ∷ [] }
+        ensures capacity { self.new.waiting.now.capacity ≡ self.old.waiting.now.capacity }
+    {
+        self.parents[job as usize] = parent;
+        self.waiting.push_back(job).unwrap();
+    }
 
-// Marks a job as seen from `parent`, and lets it wait.
-fn visit(parents: &mut [u16], queue: &mut RingQueue, slots: &mut [u16], job: u16, parent: u16)
-    requires ready { Ready queue.old (length slots.old) }
-    requires room { queue.old.len < length slots.old }
-    requires job { job < length parents.old }
-    ensures marks { parents.new ≡ slice_set parents.old job parent }
-    ensures ready { Ready queue.new (length slots.new) }
-    ensures waits { entries queue.new slots.new ≡ entries queue.old slots.old ++ job ∷ [] }
-{
-    parents[job as usize] = parent;
-    enqueue(queue, slots, job);
-}
-
-// Marks the jobs without a place alone, and lets them wait.
-fn start(places: &[u16], parents: &mut [u16], slots: &mut [u16]) -> RingQueue
-    requires few { length parents.old ≤ 65535 }
-    requires places { length parents.old ≤ length places.now }
-    requires slots { length parents.old ≤ length slots.old }
-    ensures ready { Ready result (length slots.new) }
-    ensures rooted { Rooted (length parents.new) places.now parents.new (entries result slots.new) }
-{
-    let mut queue = RingQueue::new();
-    for job in 0..parents.len() {
-        if places[job] == NONE {
-            visit(parents, &mut queue, slots, job as u16, job as u16);
-        } else {
-            parents[job] = NONE;
+    // Marks the jobs without a place alone, and lets them wait.
+    fn start<J: Bipartite>(&mut self, matching: &Matching<J>)
+        requires parents { length self.old.parents.now ≡ J.jobs matching.now.jobs.now }
+        requires empty { self.old.waiting.now.entries ≡ [] }
+        requires room { J.jobs matching.now.jobs.now ≤ self.old.waiting.now.capacity }
+        ensures same { self.new.parents.ghost_name ≡ self.old.parents.ghost_name }
+        ensures size { length self.new.parents.now ≡ length self.old.parents.now }
+        ensures rooted { Rooted (J.jobs matching.now.jobs.now) matching.now.places.now self.new.parents.now self.new.waiting.now.entries }
+        ensures capacity { self.new.waiting.now.capacity ≡ self.old.waiting.now.capacity }
+    {
+        self.parents.fill(NONE);
+        for (job, place) in matching.places.iter().enumerate() {
+            if *place == NONE {
+                self.visit(job as u16, job as u16);
+            }
         }
     }
-    queue
-}
 
-// Looks through the places of a job for a free one, and lets the holders wait that were not seen.
-fn scan<J: Bipartite>(
-    jobs: &J,
-    matching: &Matching,
-    parents: &mut [u16],
-    queue: &mut RingQueue,
-    slots: &mut [u16],
-    job: u16,
-) -> Option<u16>
-    requires few { (J.jobs jobs.now ≤ 65535) × (J.width jobs.now ≤ 2048) }
-    requires matched { Matched (J.jobs jobs.now) (J.width jobs.now) (J.holds jobs.now) matching.now.places.now matching.now.holders.now }
-    requires ready { Ready queue.old (length slots.old) }
-    requires slots { J.jobs jobs.now ≤ length slots.old }
-    requires job { (job < J.jobs jobs.now) × (filled parents.old job ≡ true) }
-    requires state { Searching (J.jobs jobs.now) (J.width jobs.now) (J.holds jobs.now) matching.now.places.now matching.now.holders.now parents.old (entries queue.old slots.old) job 0 }
-    ensures ready { Ready queue.new (length slots.new) }
-    ensures less { left (J.jobs jobs.now) parents.new (entries queue.new slots.new) ≤ left (J.jobs jobs.now) parents.old (entries queue.old slots.old) }
-    ensures state { MatchOption result (Searching (J.jobs jobs.now) (J.width jobs.now) (J.holds jobs.now) matching.now.places.now matching.now.holders.now parents.new (entries queue.new slots.new) (J.jobs jobs.now) 0) (λ p. Found (J.jobs jobs.now) (J.width jobs.now) (J.holds jobs.now) matching.now.places.now matching.now.holders.now parents.new job p) }
-{
-    let mut from = 0;
-    while let Some(place) = jobs.next_from(job as usize, from) {
-        let Some(holder) = matching.holder_of(place) else {
-            return Some(place);
-        };
-        if !is_seen(parents, holder) {
-            visit(parents, queue, slots, holder, job);
+    // Looks through the places of a job for a free one, and lets the holders wait that were not seen.
+    fn scan<J: Bipartite>(&mut self, matching: &Matching<J>, job: u16) -> Option<u16>
+        requires room { J.jobs matching.now.jobs.now ≤ self.old.waiting.now.capacity }
+        requires job { job < J.jobs matching.now.jobs.now }
+        requires seen { filled self.old.parents.now job ≡ true }
+        requires state { IsSearched matching.now self.old.parents.now self.old.waiting.now.entries job 0 }
+        ensures same { self.new.parents.ghost_name ≡ self.old.parents.ghost_name }
+        ensures capacity { self.new.waiting.now.capacity ≡ self.old.waiting.now.capacity }
+        ensures less { left (J.jobs matching.now.jobs.now) self.new.parents.now self.new.waiting.now.entries ≤ left (J.jobs matching.now.jobs.now) self.old.parents.now self.old.waiting.now.entries }
+        ensures state { MatchOption result (IsSearched matching.now self.new.parents.now self.new.waiting.now.entries (J.jobs matching.now.jobs.now) 0) (λ p. HasOpening matching.now self.new.parents.now job p) }
+    {
+        for place in matching.jobs.list(job as usize).places() {
+            let Some(holder) = matching.holder_of(place) else {
+                return Some(place);
+            };
+            if !self.has_seen(holder) {
+                self.visit(holder, job);
+            }
         }
-        from = place + 1;
+        None
     }
-    None
 }
 
 // A job that can be given a free place along the parents, or none where the matching is a largest one.
 pub fn search<J: Bipartite>(
-    jobs: &J,
-    matching: &Matching,
+    matching: &Matching<J>,
     parents: &mut [u16],
     slots: &mut [u16],
 ) -> Option<Opening>
-    requires few { (J.jobs jobs.now ≤ 65535) × (J.width jobs.now ≤ 2048) }
-    requires matched { Matched (J.jobs jobs.now) (J.width jobs.now) (J.holds jobs.now) matching.now.places.now matching.now.holders.now }
-    requires parents { length parents.old ≡ J.jobs jobs.now }
-    requires slots { J.jobs jobs.now ≤ length slots.old }
-    ensures { MatchOption result (Stalled (J.jobs jobs.now) (J.width jobs.now) (J.holds jobs.now) matching.now.places.now matching.now.holders.now parents.new) (λ o. Found (J.jobs jobs.now) (J.width jobs.now) (J.holds jobs.now) matching.now.places.now matching.now.holders.now parents.new o.job o.place) }
+    requires parents { length parents.old ≡ J.jobs matching.now.jobs.now }
+    requires slots { J.jobs matching.now.jobs.now ≤ length slots.old }
+    ensures { MatchOption result (IsStalled matching.now parents.new) (λ o. HasOpening matching.now parents.new o.job o.place) }
 {
-    let mut queue = start(matching.places, parents, slots);
-    while let Some(job) = queue.pop_front(slots) {
-        if let Some(place) = scan(jobs, matching, parents, &mut queue, slots, job) {
+    let mut waiting = RingQueue::new(slots);
+    let mut frontier = Frontier {
+        parents,
+        waiting: &mut waiting,
+    };
+    frontier.start(matching);
+    while let Some(job) = frontier.waiting.pop_front() {
+        if let Some(place) = frontier.scan(matching, job) {
             return Some(Opening { job, place });
         }
     }

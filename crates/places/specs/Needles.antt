@@ -1,5 +1,5 @@
 -- The set that the numbers stored in a needle list stand for: their longest front part that a making would pass.
-use Rattle.std.specs.Prelude.{ℕ, ◌+◌, Bool, true, cond, ◌&&◌, List, [], ◌∷◌, length, nat_le, nat_lt}
+use Rattle.std.specs.Prelude.{ℕ, ◌+◌, Bool, true, cond, ◌&&◌, List, [], ◌∷◌, length, nat_le, nat_lt, ◌++◌, ◌-◌, replicate}
 use Rattle.theory.specs.Lists.{member}
 
 -- x may follow numbers below low
@@ -23,3 +23,7 @@ front_part low (x ∷ xs) = cond (passes low x) (x ∷ front_part (x + 1) xs) []
 -- the set of a needle list, by its stored numbers
 abbrev pub needles_have : List ℕ → ℕ → Bool
 needles_have xs = member (front_part 0 xs)
+
+-- ys as the eight numbers of a needle list store it
+abbrev pub padded : List ℕ → List ℕ
+padded ys = ys ++ replicate (8 - length ys) 65535

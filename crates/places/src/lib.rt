@@ -10,4 +10,4 @@ mod set;
 pub use family::empty;
 pub use needles::NeedleList;
 pub use row::CarrierRow;
-pub use set::{NoList, PlaceSet};
+pub use set::{NoList, PlaceSet, Places};

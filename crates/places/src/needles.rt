@@ -1,13 +1,14 @@
 // A set of at most eight places below 2,048, as numbers in a lent table. The numbers carry no invariant: their longest
 // front part that a making would pass is the set.
-ghost use Rattle.std.specs.Prelude.{◌≡◌, ℕ, ◌≤◌, true, length, is_ok, IfOk};
+ghost use Rattle.std.specs.Prelude.{◌≡◌, ℕ, ◌≤◌, length, is_ok, IfOk};
 ghost use Rattle.theory.specs.Lists.{member};
-ghost use Rattle.places.specs.Needles.{front_part, makes_list, needles_have, rises};
+ghost use Rattle.places.specs.Needles.{front_part, makes_list, needles_have};
+ghost use Rattle.places.specs.Rising.{rising_rest};
 ghost use Rattle.places.specs.Fronts.{member_within, front_rises};
 ghost use Rattle.std.proofs.Common.{rules};
 
 use crate::rising::{
-    first_from, has_place, how_many, is_rising, may_follow, stored, stored_only, stored_without,
+    Rising, first_from, has_place, how_many, is_rising, stored, stored_only, stored_without,
 };
 use crate::set::{NoList, PlaceSet};
 
@@ -27,43 +28,29 @@ impl NeedleList {
             return Err(NoList);
         }
         Ok(NeedleList {
-            places: stored(named),
+            places: stored(named.iter().copied()),
         })
     }
 
     // The stored numbers that count: the places held, rising.
-    fn front(&self) -> &[u16]
-        ensures value { result.now ≡ front_part 0 self.now.places }
-        ensures rises { rises 0 result.now ≡ true }
-        ensures few { length result.now ≤ 8 }
+    fn front(&self) -> Rising<'_>
+        ensures value { rising_rest result ≡ front_part 0 self.now.places }
+        ensures few { length (rising_rest result) ≤ 8 }
     {
-        let mut low = 0;
-        let mut n = 0;
-        for x in self.places {
-            if !may_follow(low, x) {
-                break;
-            }
-            low = x + 1;
-            n += 1;
-        }
-        &self.places[0..n]
+        Rising::of(&self.places)
     }
 }
 
 impl PlaceSet for NeedleList {
     const LIMIT: usize = 2048;
 
-    ghost limit = { 2048 };
+    ghost LIMIT = { 2048 };
 
     ghost has = { λ x. needles_have x.places };
 
     ghost bounded = { Prim.search rules };
 
     ghost within = { λ x p held. (member_within 0 (front_part 0 x.places) p (front_rises 0 x.places) held).1 };
-
-    fn width_limit() -> usize {
-        Self::LIMIT
-    }
 
     fn contains(&self, place: u16) -> bool {
         has_place(self.front(), place)
@@ -74,7 +61,7 @@ impl PlaceSet for NeedleList {
     }
 
     fn next_from(&self, place: u16) -> Option<u16> {
-        first_from(&self.places, place)
+        first_from(self.front(), place)
     }
 
     fn strike(&mut self, place: u16) {

@@ -44,12 +44,7 @@ fn bit_count(row: u64) -> u16
 fn all_fit(named: &[u16]) -> bool
     ensures { result ≡ all_below 64 named.now }
 {
-    for place in named {
-        if *place >= 64 {
-            return false;
-        }
-    }
-    true
+    named.iter().all(|place| *place < 64)
 }
 
 fn row_of(named: &[u16]) -> u64
@@ -79,17 +74,13 @@ impl CarrierRow {
 impl PlaceSet for CarrierRow {
     const LIMIT: usize = 64;
 
-    ghost limit = { 64 };
+    ghost LIMIT = { 64 };
 
     ghost has = { λ x. row_has x.0 };
 
     ghost bounded = { Prim.search rules };
 
     ghost within = { Prim.search rules };
-
-    fn width_limit() -> usize {
-        Self::LIMIT
-    }
 
     fn contains(&self, place: u16) -> bool {
         place < 64 && (self.0 >> place) % 2 == 1

@@ -3,7 +3,7 @@ use crate::stopped::Stopped;
 use crate::tables::{ALL_THREE, FIRST_TWO, SUM, Tables};
 use places::{CarrierRow, NeedleList};
 use records::RuleRecord;
-use rules::Sum;
+use rules::{Addition, Sum};
 
 // Rows of four jobs want 8 × (4 + 64) numbers.
 fn carry_rows(
@@ -43,7 +43,12 @@ pub fn feeding(rt: HostRuntime) -> Result<(), Stopped> {
     println!(rt; "two rules feed each other")?;
     let two = CarrierRow::new(&[0, 1])?;
     let opened = [two, two, CarrierRow::new(&[0])?, CarrierRow::new(&[1])?];
-    let sum = RuleRecord::Sum(Sum { a: 0, b: 2, c: 3 });
+    let sum = RuleRecord::Sum(Sum {
+        a: 0,
+        b: 2,
+        c: 3,
+        by: Addition,
+    });
     carry_rows(rt, 4, opened, &[FIRST_TWO, sum])
 }
 

@@ -44,8 +44,8 @@ pub fn rule_more(rt: HostRuntime) -> Result<(), Stopped> {
     let board = tables.board(3, &[])?;
     let settled = tables.settle(board)?;
     print_lists(rt, settled.standing(&tables.standing)?)?;
-    let mut board = Board::open(3, WIDTH, &tables.opened)?;
-    board.add_rule(&mut tables.rules, ALL_THREE)?;
-    let board = board.close(&tables.opened, &tables.rules)?;
+    let mut board = Board::open(3, WIDTH, &tables.course.opened)?;
+    board.add_rule(&mut tables.course.rules, ALL_THREE)?;
+    let board = board.close(tables.course.lent())?;
     tables.finish(rt, board, &[ALL_THREE])
 }

@@ -1,35 +1,45 @@
 // The lines of a course.
 use places::PlaceSet;
-use std::io;
+use std::{fmt, io};
 
-// The job's number, a colon, and each place after a space.
-fn print_job<L: PlaceSet>(rt: HostRuntime, job: usize, list: &L) -> io::Result<()> {
-    print!(rt; "{job}:")?;
-    let mut from = 0;
-    while let Some(place) = list.next_from(from) {
-        print!(rt; " {place}")?;
-        from = place + 1;
+// A job's number, a colon, and each place of its list after a space.
+#[derive_where(Clone, Copy)]
+struct JobLine<'a, L> {
+    job: usize,
+    list: &'a L,
+}
+
+impl<L: PlaceSet> fmt::Display for JobLine<'_, L> {
+    fn fmt<W: fmt::Write>(&self, f: &mut fmt::Formatter<W>) -> fmt::Result {
+        write!(f, "{}:", self.job)?;
+        for place in self.list.places() {
+            write!(f, " {place}")?;
+        }
+        Ok(())
     }
-    println!(rt)
 }
 
 pub fn print_lists<L: PlaceSet>(rt: HostRuntime, lists: &[L]) -> io::Result<()> {
     for (job, list) in lists.iter().enumerate() {
-        print_job(rt, job, list)?;
+        println!(rt; "{}", JobLine { job, list })?;
     }
     Ok(())
 }
 
 // A rule's deficiency, and the jobs of its deficient group.
-pub fn print_group(
-    rt: HostRuntime,
-    rule: usize,
-    deficiency: usize,
-    jobs: &[u16],
-) -> io::Result<()> {
-    print!(rt; "rule {rule} lacks {deficiency}:")?;
-    for job in jobs {
-        print!(rt; " {job}")?;
+#[derive(Clone, Copy)]
+pub struct GroupLine<'a> {
+    pub rule: usize,
+    pub deficiency: usize,
+    pub jobs: &'a [u16],
+}
+
+impl fmt::Display for GroupLine<'_> {
+    fn fmt<W: fmt::Write>(&self, f: &mut fmt::Formatter<W>) -> fmt::Result {
+        write!(f, "rule {} lacks {}:", self.rule, self.deficiency)?;
+        for job in self.jobs {
+            write!(f, " {job}")?;
+        }
+        Ok(())
     }
-    println!(rt)
 }

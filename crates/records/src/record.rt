@@ -1,17 +1,12 @@
 // A rule record: the numbers of a distinct, a sum or a gap rule.
-ghost use Rattle.std.specs.Prelude.{◌≡◌, ℕ, Bool, true, refl};
-ghost use Rattle.std.proofs.Common.{ap, arith};
-ghost use Rattle.records.specs.Record.{scope_of, admits_of, lawful_of, names_of};
-ghost use Rattle.rules.proofs.Triples.{apart_scope};
-ghost use Rattle.distinct.specs.Spreads.{lawful_scope};
-ghost use Rattle.records.specs.declared.record.RuleRecord.TheVariants.{Distinct, Sum, Gap};
-ghost use Rattle.rules.specs.Progressions.{jobs_of};
-ghost use Rattle.rules.specs.declared.progression.Progression.{Progression};
+ghost use Rattle.std.specs.Prelude.{◌≡◌, ℕ, Bool, true};
+ghost use Rattle.records.specs.Record.{scope_of, admits_of, lawful_of, names_of, lawful_of_scope, names_of_names};
 
 use distinct::Distinct;
 use places::PlaceSet;
 use rules::{Gap, Progression, Rule, Sum};
 
+// A match in each method and no `dyn Rule`: a trait object has no `narrow`, which is generic over the list kind.
 #[derive(Clone, Copy)]
 pub enum RuleRecord {
     Distinct(Distinct),
@@ -28,21 +23,9 @@ impl Rule for RuleRecord {
 
     ghost names = { names_of };
 
-    ghost scoped = { elim [
-      | Distinct d ↦ λ n h. lawful_scope d.first d.step d.count n h
-      | Sum s ↦ λ n h. apart_scope n s.a s.b s.c h
-      | Gap g ↦ λ n h. apart_scope n g.a g.b g.c h
-    ] };
+    ghost scoped = { lawful_of_scope };
 
-    ghost named = { elim [
-      | Distinct r ↦
-          λ d e.
-          let own : Progression = record { first = r.first; step = r.step; count = r.count } in
-          let same : own ≡ d = cc in
-          record { jobs = ap jobs_of same; same = λ row. refl }
-      | Sum s ↦ λ d e. let z : ◌≡◌ {A = ℕ} 0 1 = cc in absurd (omega arith)
-      | Gap g ↦ λ d e. let z : ◌≡◌ {A = ℕ} 0 1 = cc in absurd (omega arith)
-    ] };
+    ghost named = { names_of_names };
 
     fn is_lawful(&self, n: usize) -> bool {
         match self {

@@ -1,5 +1,5 @@
 -- What a refusal says, and which refusal a call gives: that of the first check that fails.
-use Rattle.std.specs.Prelude.{ℕ, ◌+◌, Bool, cond, List, [], ◌∷◌, Some, None, Ok, Err, Option, Result}
+use Rattle.std.specs.Prelude.{ℕ, ◌+◌, Bool, if◌then◌else◌, List, [], ◌∷◌, Some, None, Ok, Err, Option, Result}
 use Rattle.refusals.specs.declared.Refusal.{Refusal}
 use Rattle.refusals.specs.declared.Refusal.TheVariants.{JobCount, BedWidth, TableTooShort, PlaceTooLarge, UnlawfulRule, CutOutside, NoSuchJob, NoSuchPlace, Full, NoSuchCut, NoDistinctRule, LineTooShort, Short}
 
@@ -39,9 +39,9 @@ then_check None y = y
 
 -- a check that names no list, rule or cut
 abbrev pub fails_if : Bool → ℕ → Option Code
-fails_if b n = cond b (Some (code n 0)) None
+fails_if b n = if b then Some (code n 0) else None
 
 -- a check of each element: it names the first one at fault, counted from i
 abbrev pub first_fault : {X : Type 0} → (X → Bool) → ℕ → ℕ → List X → Option Code
 first_fault bad n i [] = None
-first_fault bad n i (x ∷ xs) = cond (bad x) (Some (code n i)) (first_fault bad n (i + 1) xs)
+first_fault bad n i (x ∷ xs) = if bad x then Some (code n i) else first_fault bad n (i + 1) xs

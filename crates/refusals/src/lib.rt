@@ -1,4 +1,15 @@
+// Refusals, and checks that name the first element at fault.
 #![tactic(auto)]
+
+ghost use Rattle.std.specs.Prelude.{◌≡◌};
+ghost use Rattle.refusals.specs.Codes.{says};
+
+use std::error::Error;
+use std::fmt;
+
+mod check;
+
+pub use check::check_each;
 
 // Why a call was refused. The definition `says` gives each case its number and index.
 #[derive(Clone, Copy, PartialEq, Eq, Debug)]
@@ -30,3 +41,38 @@ pub enum Refusal {
     // The greatest consistent family leaves this job no place.
     Short(u16),
 }
+
+impl Refusal {
+    // The refusal's number, without the list, rule or cut concerned.
+    pub fn number(self) -> u16
+        ensures { result ≡ (says self).number }
+    {
+        match self {
+            Refusal::JobCount => 8,
+            Refusal::BedWidth => 9,
+            Refusal::TableTooShort => 10,
+            Refusal::PlaceTooLarge(_) => 11,
+            Refusal::UnlawfulRule(_) => 12,
+            Refusal::CutOutside(_) => 13,
+            Refusal::NoSuchJob => 14,
+            Refusal::NoSuchPlace => 15,
+            Refusal::Full => 16,
+            Refusal::NoSuchCut => 17,
+            Refusal::NoDistinctRule => 18,
+            Refusal::LineTooShort => 19,
+            Refusal::Short(_) => 20,
+        }
+    }
+}
+
+impl fmt::Display for Refusal {
+    ghost use Rattle.std.specs.Prelude.{◌++◌, Some, codes, decimal};
+
+    ghost output = { λ refusal. Some (codes "refused " ++ decimal (says refusal).number) };
+
+    fn fmt<W: fmt::Write>(&self, f: &mut fmt::Formatter<W>) -> fmt::Result {
+        write!(f, "refused {}", self.number())
+    }
+}
+
+impl Error for Refusal {}

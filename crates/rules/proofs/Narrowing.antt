@@ -1,6 +1,7 @@
 -- Trimming step by step comes to narrowing.
-use Rattle.std.proofs.Common.{◌≡◌, ℕ, zero, suc, ◌+◌, ◌<◌, ◌≤◌, Bool, true, false, not, ◌&&◌, eqb, ◌⊎◌, List, [], ◌∷◌, length, get_or, set, sym, refl, ap, ◌∙◌, subst, inl, inr, ⊎_elim, suc-le-suc, le_of_suc-le-suc, not-suc-le-zero, arith}
+use Rattle.std.proofs.Common.{◌≡◌, ℕ, zero, suc, ◌+◌, ◌<◌, ◌≤◌, Bool, true, false, not, ◌&&◌, ◌==◌, ◌⊎◌, List, [], ◌∷◌, length, slice_index, slice_index_or, set, sym, refl, ap, ◌∙◌, subst, inl, inr, ⊎_elim, suc-le-suc, le_of_suc-le-suc, not-suc-le-zero, arith}
 use Rattle.std.proofs.lemmas.Bool.{cases_eq, ne_eqb, eq-eqb, and_parts, and_from, and_right, both_ways, cases_lt}
+use Rattle.std.proofs.Math.Bool.{and-true}
 use Rattle.places.specs.Sets.{without}
 use Rattle.places.specs.Families.{Family, family, Inside}
 use Rattle.places.proofs.Families.{family_at, family_set_same, family_set_other}
@@ -13,26 +14,29 @@ pub record Struck (job p : ℕ) (before after : Family) : Type 0 where
   pub gone : (q : ℕ) → after job q ≡ without (before job) p q
 
 pub struck_gone : {job p : ℕ} {f g : Family} → Struck job p f g → g job p ≡ false
-struck_gone {job} {p} {f} s = s.gone p ∙ and_right (f job p) (not (eqb p p)) (ap not (eq-eqb p p refl))
+struck_gone {job} {p} {f} s = s.gone p ∙ and_right (f job p) (not (p == p)) (ap not (eq-eqb p p refl))
+
+pub struck_kept : {job p : ℕ} {f g : Family} → Struck job p f g → (q : ℕ) → (q ≡ p → ⊥) → g job q ≡ f job q
+struck_kept {job} {p} {f} s q ne = s.gone q ∙ ap (λ b. f job q && not b) (ne_eqb q p ne) ∙ and-true (f job q)
 
 struck_inside : {job p : ℕ} {f g : Family} → Struck job p f g → Inside g f
 struck_inside {job} {p} {f} {g} s j q h =
     ⊎_elim
     (λ (e : j ≡ job).
     let held : g job q ≡ true = subst (λ i. g i q ≡ true) e h in
-    subst (λ i. f i q ≡ true) (sym e) (and_parts (f job q) (not (eqb q p)) (sym (s.gone q) ∙ held)).0)
+    subst (λ i. f i q ≡ true) (sym e) (and_parts (f job q) (not (q == p)) (sym (s.gone q) ∙ held)).0)
     (λ (n : j ≡ job → ⊥). sym (s.same j q n) ∙ h)
     (cases_eq j job)
 
 module _ {L : Type 0} (has : L → ℕ → Bool) where
   -- a strike in one list of a table
-  struck_at : (xs : List L) (j p : ℕ) (d y : L) → j < length xs → ((q : ℕ) → has y q ≡ without (has (get_or xs j d)) p q) → Struck j p (family has xs) (family has (set xs j y))
+  struck_at : (xs : List L) (j p : ℕ) (d y : L) → j < length xs → ((q : ℕ) → has y q ≡ without (has (slice_index_or xs j d)) p q) → Struck j p (family has xs) (family has (set xs j y))
   struck_at xs j p d y l w = record {
     same = λ i q ne. family_set_other has xs j i y q ne;
-    gone = λ q. family_set_same has xs j y q l ∙ w q ∙ ap (λ b. b && not (eqb q p)) (sym (family_at has xs j d q l));
+    gone = λ q. family_set_same has xs j y q l ∙ w q ∙ ap (λ b. b && not (q == p)) (sym (family_at has xs j d q l));
   }
 
-  pub struck_job : (xs : List L) (j i p : ℕ) (d y : L) → j ≡ i → i < length xs → ((q : ℕ) → has y q ≡ without (has (get_or xs j d)) p q) → Struck i p (family has xs) (family has (set xs j y))
+  pub struck_job : (xs : List L) (j i p : ℕ) (d y : L) → j ≡ i → i < length xs → ((q : ℕ) → has y q ≡ without (has (slice_index_or xs j d)) p q) → Struck i p (family has xs) (family has (set xs j y))
   struck_job xs j i p d y e l w =
       let low : j < length xs = omega arith in
       subst (λ k. Struck k p (family has xs) (family has (set xs j y))) e (struck_at xs j p d y low w)
@@ -58,15 +62,15 @@ module _ {scope : List ℕ} {admits : List ℕ → Bool} where
   }
 
   -- a place without a support may go
-  pub trimmed_struck : {n k p : ℕ} {f g : Family} → Scope n scope → k < length scope → Struck (get_or scope k 0) p f g → (Support scope admits f k p → ⊥) → Trimmed scope admits f g
+  pub trimmed_struck : {n k p : ℕ} {f g : Family} → Scope n scope → k < length scope → Struck (slice_index scope k) p f g → (Support scope admits f k p → ⊥) → Trimmed scope admits f g
   trimmed_struck {n} {k} {p} {f} {g} sc l s none = record {
     inside = struck_inside s;
     rows = λ row sized ok drawn i li.
         ⊎_elim
         (λ (e : i ≡ k).
-        let missed : get_or row k 0 ≡ p → ⊥ = λ here. none (record { row = row; sized = sized; admitted = ok; here = here; drawn = drawn }) in
-        let kept : g (get_or scope k 0) (get_or row k 0) ≡ true = s.gone (get_or row k 0) ∙ and_from (f (get_or scope k 0) (get_or row k 0)) (not (eqb (get_or row k 0) p)) (drawn k l) (ap not (ne_eqb _ _ missed)) in
-        subst (λ m. g (get_or scope m 0) (get_or row m 0) ≡ true) (sym e) kept)
+        let missed : slice_index row k ≡ p → ⊥ = λ here. none (record { row = row; sized = sized; admitted = ok; here = here; drawn = drawn }) in
+        let kept : g (slice_index scope k) (slice_index row k) ≡ true = s.gone (slice_index row k) ∙ and_from (f (slice_index scope k) (slice_index row k)) (not (slice_index row k == p)) (drawn k l) (ap not (ne_eqb _ _ missed)) in
+        subst (λ m. g (slice_index scope m) (slice_index row m) ≡ true) (sym e) kept)
         (λ (ne : i ≡ k → ⊥). s.same _ _ (λ same. ne (sc.differ i k li l same)) ∙ drawn i li)
         (cases_eq i k);
     others = λ j q out. s.same j q (λ e. out k l (sym e));
@@ -74,17 +78,17 @@ module _ {scope : List ℕ} {admits : List ℕ → Bool} where
 
   pub narrowed : {f g : Family} → Trimmed scope admits f g → ((k : ℕ) → k < length scope → Swept scope admits k f g) → Narrowed scope admits f g
   narrowed {f} {g} t swept = record {
-    keeps = λ k p l s. subst (λ q. g (get_or scope k 0) q ≡ true) s.here (t.rows s.row s.sized s.admitted s.drawn k l);
+    keeps = λ k p l s. subst (λ q. g (slice_index scope k) q ≡ true) s.here (t.rows s.row s.sized s.admitted s.drawn k l);
     supported = λ k p l h. swept k l p h;
     others = t.others;
   }
 
   -- one more place is done, and those before it that are not held
   pub swept_more : {f g h : Family} (k from p : ℕ) → Trimmed scope admits f g → Trimmed scope admits g h → SweptAt scope admits k p g h
-      → ((q : ℕ) → q < from → SweptAt scope admits k q f g) → ((q : ℕ) → from ≤ q → q < p → g (get_or scope k 0) q ≡ false)
+      → ((q : ℕ) → q < from → SweptAt scope admits k q f g) → ((q : ℕ) → from ≤ q → q < p → g (slice_index scope k) q ≡ false)
       → (q : ℕ) → q < p + 1 → SweptAt scope admits k q f h
   swept_more {f} {g} {h} k from p so_far step done below none q l held =
-      let kept : g (get_or scope k 0) q ≡ true = step.inside _ q held in
+      let kept : g (slice_index scope k) q ≡ true = step.inside _ q held in
       ⊎_elim
       (λ (low : q < from). below q low kept)
       (λ (high : from ≤ q).
@@ -94,13 +98,8 @@ module _ {scope : List ℕ} {admits : List ℕ → Bool} where
       (cases_eq q p))
       (cases_lt q from)
 
-  -- all places are done where none is held from a number on
-  pub swept_all : (f g : Family) (k from : ℕ) → ((q : ℕ) → q < from → SweptAt scope admits k q f g) → ((q : ℕ) → from ≤ q → g (get_or scope k 0) q ≡ false) → Swept scope admits k f g
-  swept_all f g k from below none q held =
-      ⊎_elim (λ (low : q < from). below q low held) (λ (high : from ≤ q). absurd (both_ways _ (none q high) held)) (cases_lt q from)
-
 abbrev pub Stands : List ℕ → ℕ → Type 0
-Stands scope j = (k : ℕ) × (k < length scope) × (get_or scope k 0 ≡ j)
+Stands scope j = (k : ℕ) × (k < length scope) × (slice_index scope k ≡ j)
 
 -- a scope names a job or it does not
 pub find : (scope : List ℕ) (j : ℕ) → Stands scope j ⊎ Misses scope j
@@ -125,6 +124,6 @@ narrowed_inside {scope} {admits} {f} {g} n j p h =
     ⊎_elim
     (λ (found : Stands scope j).
     let s = n.supported found.0 p found.1 (subst (λ i. g i p ≡ true) (sym found.2) h) in
-    subst (λ i. f i p ≡ true) found.2 (subst (λ q. f (get_or scope found.0 0) q ≡ true) s.here (s.drawn found.0 found.1)))
+    subst (λ i. f i p ≡ true) found.2 (subst (λ q. f (slice_index scope found.0) q ≡ true) s.here (s.drawn found.0 found.1)))
     (λ out. sym (n.others j p out) ∙ h)
     (find scope j)

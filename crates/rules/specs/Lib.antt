@@ -3,3 +3,4 @@ pub mod Progressions
 pub mod Refusals
 pub mod Sweeping
 pub mod Triples
+pub mod Jobs

@@ -1,5 +1,5 @@
--- The jobs of a distinct rule, in equal steps.
-use Rattle.std.specs.Prelude.{◌≡◌, ℕ, zero, suc, ◌+◌, Bool, List, [], ◌∷◌}
+-- Jobs in equal steps, and the rule that they have different places.
+use Rattle.std.specs.Prelude.{◌≡◌, ℕ, zero, suc, ◌+◌, ◌-◌, ◌*◌, Bool, ◌&&◌, List, [], ◌∷◌, nat_le, nat_lt}
 use Rattle.theory.specs.Rows.{admits}
 use Rattle.rules.specs.declared.progression.Progression.{Progression}
 
@@ -11,6 +11,10 @@ spread first step (suc m) = first ∷ spread (first + step) step m
 -- the jobs of a progression
 abbrev pub jobs_of : Progression → List ℕ
 jobs_of d = spread d.first d.step d.count
+
+-- there are jobs, which differ and are below n
+abbrev pub lawful : Progression → ℕ → Bool
+lawful d n = nat_le 1 d.step && (nat_le 1 d.count && nat_lt (d.first + (d.count - 1) * d.step) n)
 
 -- a row with no place twice
 abbrev pub no_place_twice : List ℕ → Bool

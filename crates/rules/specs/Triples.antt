@@ -1,7 +1,6 @@
--- Rules over three jobs, and the search for the place that completes a row.
-use Rattle.std.specs.Prelude.{◌≡◌, ℕ, ◌+◌, ◌-◌, Bool, true, false, cond, not, ◌&&◌, List, [], ◌∷◌, Some, None, Option, ◌==◌, nat_le, nat_lt}
-use Rattle.rules.specs.declared.triple.Third.{Third}
-use Rattle.rules.specs.declared.triple.Third.TheVariants.{Sum, Difference, Distance}
+-- Rules over three jobs.
+use Rattle.std.specs.Prelude.{◌≡◌, ℕ, ◌+◌, ◌-◌, Bool, true, false, not, ◌&&◌, List, [], ◌∷◌, ◌==◌, nat_lt}
+use Rattle.rules.specs.declared.triple.Triple.{Triple}
 
 -- rows of three places that pass a test
 abbrev pub triple : (ℕ → ℕ → ℕ → Bool) → List ℕ → Bool
@@ -10,6 +9,10 @@ triple test (a ∷ []) = false
 triple test (a ∷ b ∷ []) = false
 triple test (a ∷ b ∷ c ∷ []) = test a b c
 triple test (a ∷ b ∷ c ∷ d ∷ rest) = false
+
+-- the jobs of a rule over three
+abbrev pub three_jobs : {K : Type 0} → Triple K → List ℕ
+three_jobs t = t.a ∷ (t.b ∷ (t.c ∷ []))
 
 -- a + b = c
 abbrev pub is_sum : ℕ → ℕ → ℕ → Bool
@@ -23,16 +26,10 @@ is_gap a b c = (a - b) + (b - a) == c
 abbrev pub apart : ℕ → ℕ → ℕ → ℕ → Bool
 apart n a b c = nat_lt a n && (nat_lt b n && (nat_lt c n && (not (a == b) && (not (a == c) && not (b == c)))))
 
--- the place that completes p and q, if there is one
-abbrev pub third : Third → ℕ → ℕ → Option ℕ
-third Sum p q = Some (p + q)
-third Difference p q = cond (nat_le q p) (Some (p - q)) None
-third Distance p q = Some ((p - q) + (q - p))
-
-abbrev pub wanted : Option ℕ → (ℕ → Bool) → Bool
-wanted None held = false
-wanted (Some r) held = held r
-
--- some place q of the first set is completed by a place of the second
-abbrev pub Meets : Third → ℕ → (ℕ → Bool) → (ℕ → Bool) → Type 0
-Meets by p first second = (q : ℕ) × (first q ≡ true) × (wanted (third by p q) second ≡ true)
+-- some places q of the first set and r of the second pass a test
+pub record Meets (passes : ℕ → ℕ → Bool) (first second : ℕ → Bool) : Type 0 where
+  pub q : ℕ
+  pub r : ℕ
+  pub passing : passes q r ≡ true
+  pub in_first : first q ≡ true
+  pub in_second : second r ≡ true

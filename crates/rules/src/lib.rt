@@ -10,9 +10,10 @@ mod sum;
 mod sweep;
 mod triple;
 
-pub use check::{check_offered, check_rules};
-pub use gap::Gap;
+pub use check::{check_job_count, check_offered, check_rules};
+pub use gap::{Distance, Gap};
 pub use narrow::narrow_family;
-pub use progression::Progression;
+pub use progression::{Jobs, Progression};
 pub use rule::Rule;
-pub use sum::Sum;
+pub use sum::{Addition, Sum};
+pub use triple::{Relation, Triple};

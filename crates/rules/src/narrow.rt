@@ -5,6 +5,7 @@ ghost use Rattle.places.specs.Families.{family};
 ghost use Rattle.rules.specs.Narrowing.{Narrowed};
 ghost use Rattle.rules.specs.Refusals.{narrow_refusal};
 
+use crate::check::check_job_count;
 use crate::rule::Rule;
 use places::PlaceSet;
 use refusals::Refusal;
@@ -13,14 +14,12 @@ fn check_narrow<L: PlaceSet, R: Rule>(
     rule: &R,
     n: usize,
     working: &[L],
-    numbers: usize,
+    numbers: &[u16],
 ) -> Result<(), Refusal>
-    ensures { refusal_of result ≡ narrow_refusal n L.limit (length working.now) numbers (R.lawful rule.now n) }
+    ensures { refusal_of result ≡ narrow_refusal n L.LIMIT (length working.now) (length numbers.now) (R.lawful rule.now n) }
 {
-    if n == 0 || n > 256 {
-        return Err(Refusal::JobCount);
-    }
-    if working.len() < n || numbers < 8 * (n + L::width_limit()) {
+    check_job_count(n)?;
+    if working.len() < n || numbers.len() < 8 * (n + L::LIMIT) {
         return Err(Refusal::TableTooShort);
     }
     if !rule.is_lawful(n) {
@@ -37,10 +36,10 @@ pub fn narrow_family<L: PlaceSet + Copy, R: Rule>(
     working: &mut [L],
     numbers: &mut [u16],
 ) -> Result<(), Refusal>
-    ensures refusal { refusal_of result ≡ narrow_refusal (length lists.old) L.limit (length working.old) (length numbers.old) (R.lawful rule.now (length lists.old)) }
+    ensures refusal { refusal_of result ≡ narrow_refusal (length lists.old) L.LIMIT (length working.old) (length numbers.old) (R.lawful rule.now (length lists.old)) }
     ensures lists { MatchResult result (λ _. Narrowed (R.scope rule.now) (R.admits rule.now) (family L.has lists.old) (family L.has lists.new)) (λ _. lists.new ≡ lists.old) }
 {
-    check_narrow(rule, lists.len(), working, numbers.len())?;
+    check_narrow(rule, lists.len(), working, numbers)?;
     rule.narrow(lists, numbers);
     Ok(())
 }

@@ -41,7 +41,7 @@ pub trait Rule {
     fn narrow<L: PlaceSet + Copy>(&self, lists: &mut [L], numbers: &mut [u16])
         requires few { length lists.old ≤ 256 }
         requires lawful { lawful self.now (length lists.old) ≡ true }
-        requires memory { 7 * (length lists.old + L.limit) ≤ length numbers.old }
+        requires memory { 7 * (length lists.old + L.LIMIT) ≤ length numbers.old }
         ensures narrowed { Narrowed (scope self.now) (admits self.now) (family L.has lists.old) (family L.has lists.new) };
 
     ghost scoped: { (r : Self) (n : ℕ) → lawful r n ≡ true → Scope n (scope r) };

@@ -1,78 +1,27 @@
 // The places of jobs a and b add up to that of c.
-ghost use Rattle.std.specs.Prelude.{◌≡◌, ℕ, ◌+◌, ◌*◌, ◌<◌, ◌≤◌, Bool, true, List, [], ◌∷◌, length, get_or, None};
-ghost use Rattle.rules.specs.Triples.{triple, is_sum, apart};
-ghost use Rattle.std.proofs.Common.{rules};
+ghost use Rattle.std.specs.Prelude.{◌≡◌, ℕ, ◌+◌, ◌<◌, ◌↔◌, Bool, IsTrue};
+ghost use Rattle.rules.specs.Triples.{is_sum, Meets};
 
-use crate::progression::Progression;
-use crate::rule::Rule;
-use crate::sweep::{Search, sweep};
-use crate::triple::{Third, are_apart, jobs_meet};
+use crate::triple::{Relation, Triple, any_place};
 use places::PlaceSet;
 
 #[derive(Clone, Copy)]
-pub struct Sum {
-    pub a: u16,
-    pub b: u16,
-    pub c: u16,
-}
+pub struct Addition;
 
-impl Search for Sum {
-    ghost jobs = { λ s. s.a ∷ (s.b ∷ (s.c ∷ [])) };
+pub type Sum = Triple<Addition>;
 
-    ghost accepts = { λ _. triple is_sum };
+impl Relation for Addition {
+    ghost relates = { is_sum };
 
-    fn arity(&self) -> usize {
-        3
+    fn completes_first<L: PlaceSet>(p: u16, second: &L, third: &L) -> bool {
+        any_place(second, |q| third.contains(p + q))
     }
 
-    fn job(&self, k: usize) -> u16 {
-        match k {
-            0 => self.a,
-            1 => self.b,
-            _ => self.c,
-        }
+    fn completes_second<L: PlaceSet>(p: u16, first: &L, third: &L) -> bool {
+        any_place(first, |q| third.contains(q + p))
     }
 
-    fn supports<L: PlaceSet>(&self, lists: &[L], k: usize, p: u16) -> bool {
-        match k {
-            0 => jobs_meet(lists, self.b, self.c, Third::Sum, p),
-            1 => jobs_meet(lists, self.a, self.c, Third::Sum, p),
-            _ => jobs_meet(lists, self.a, self.b, Third::Difference, p),
-        }
-    }
-}
-
-impl Rule for Sum {
-    ghost scope = { λ s. s.a ∷ (s.b ∷ (s.c ∷ [])) };
-
-    ghost admits = { λ _. triple is_sum };
-
-    ghost lawful = { λ s n. apart n s.a s.b s.c };
-
-    ghost names = { λ _. None };
-
-    ghost scoped = { Prim.search rules };
-
-    ghost named = { Prim.search rules };
-
-    fn is_lawful(&self, n: usize) -> bool {
-        are_apart(n, self.a, self.b, self.c)
-    }
-
-    fn involves(&self, job: u16) -> bool {
-        job == self.a || job == self.b || job == self.c
-    }
-
-    fn first_job(&self) -> u16 {
-        self.job(0)
-    }
-
-    fn names_distinct(&self) -> Option<Progression> {
-        None
-    }
-
-    fn narrow<L: PlaceSet + Copy>(&self, lists: &mut [L], numbers: &mut [u16]) {
-        let _ = numbers;
-        sweep(self, lists);
+    fn completes_third<L: PlaceSet>(p: u16, first: &L, second: &L) -> bool {
+        any_place(first, |q| q <= p && second.contains(p - q))
     }
 }

@@ -1,83 +1,117 @@
-// Rows of three places.
-ghost use Rattle.std.specs.Prelude.{◌≡◌, ◌+◌, ◌<◌, ◌⊎◌, length, Decides};
+// Rules over three jobs, by the relation that the three places stand in.
+ghost use Rattle.std.specs.Prelude.{◌≡◌, ℕ, ◌+◌, ◌*◌, ◌<◌, ◌≤◌, ◌↔◌, Bool, true, false, List, length, IsTrue, None, slice_index};
 ghost use Rattle.places.specs.Families.{family};
-ghost use Rattle.rules.specs.Triples.{third, wanted, Meets, apart};
+ghost use Rattle.rules.specs.Narrowing.{Scope, Support};
+ghost use Rattle.rules.specs.Triples.{triple, three_jobs, apart, Meets};
+ghost use Rattle.std.proofs.Common.{rules};
 
+use crate::progression::Progression;
+use crate::rule::Rule;
+use crate::sweep::sweep;
 use places::PlaceSet;
 
-// How the third place of a row follows from two.
+// What is asked of three places, and how two lists are searched for the places that complete a third.
+pub trait Relation {
+    // Whether three places stand in the relation.
+    ghost relates: { ℕ → ℕ → ℕ → Bool };
+
+    // Whether p is the first of three such places, with the others in the lists.
+    fn completes_first<L: PlaceSet>(p: u16, second: &L, third: &L) -> bool
+        requires { p < L.LIMIT }
+        ensures { IsTrue result ↔ Meets (λ q r. relates p q r) (L.has second.now) (L.has third.now) };
+
+    // Whether p is the second of three such places.
+    fn completes_second<L: PlaceSet>(p: u16, first: &L, third: &L) -> bool
+        requires { p < L.LIMIT }
+        ensures { IsTrue result ↔ Meets (λ q r. relates q p r) (L.has first.now) (L.has third.now) };
+
+    // Whether p is the third of three such places.
+    fn completes_third<L: PlaceSet>(p: u16, first: &L, second: &L) -> bool
+        requires { p < L.LIMIT }
+        ensures { IsTrue result ↔ Meets (λ q r. relates q r p) (L.has first.now) (L.has second.now) };
+}
+
+// The places of jobs a, b and c, in this order, stand in a relation.
 #[derive(Clone, Copy)]
-pub enum Third {
-    Sum,
-    Difference,
-    Distance,
+pub struct Triple<K> {
+    pub a: u16,
+    pub b: u16,
+    pub c: u16,
+    pub by: K,
 }
 
-// Whether three different jobs below n are named.
-pub fn are_apart(n: usize, a: u16, b: u16, c: u16) -> bool
-    ensures { result ≡ apart n a b c }
-{
-    let below = (a as usize) < n && (b as usize) < n && (c as usize) < n;
-    below && a != b && a != c && b != c
-}
+impl<K: Relation> Triple<K> {
+    pub(crate) fn jobs(&self) -> [u16; 3]
+        ensures { result ≡ three_jobs self.now }
+    {
+        [self.a, self.b, self.c]
+    }
 
-// The place that completes p and q, if there is one.
-fn third_place(by: Third, p: u16, q: u16) -> Option<u16>
-    requires { p + q < 65536 }
-    ensures { result ≡ third by p q }
-{
-    match by {
-        Third::Sum => Some(p + q),
-        Third::Difference => p.checked_sub(q),
-        Third::Distance => Some(p.abs_diff(q)),
+    // Whether place p of the job at position k has a support.
+    #[tactic(auto, using(crate::proofs::Triples::below_three))]
+    pub(crate) fn supports<L: PlaceSet>(&self, lists: &[L], k: usize, p: u16) -> bool
+        requires position { k < 3 }
+        requires scope { Scope (length lists.now) (three_jobs self.now) }
+        requires held { family L.has lists.now (slice_index (three_jobs self.now) k) p ≡ true }
+        ensures { IsTrue result ↔ Support (three_jobs self.now) (triple K.relates) (family L.has lists.now) k p }
+    {
+        // A `match`: closures in a table would be no plainer, since each place is completed from other lists.
+        match k {
+            0 => K::completes_first(p, &lists[self.b as usize], &lists[self.c as usize]),
+            1 => K::completes_second(p, &lists[self.a as usize], &lists[self.c as usize]),
+            _ => K::completes_third(p, &lists[self.a as usize], &lists[self.b as usize]),
+        }
     }
 }
 
-// Whether p and q are completed by a place of the list.
-fn completes<L: PlaceSet>(list: &L, by: Third, p: u16, q: u16) -> bool
-    requires { p + q < 65536 }
-    ensures { result ≡ wanted (third by p q) (L.has list.now) }
-{
-    match third_place(by, p, q) {
-        Some(r) => list.contains(r),
-        None => false,
+impl<K: Relation> Rule for Triple<K> {
+    ghost scope = { three_jobs };
+
+    ghost admits = { λ _. triple K.relates };
+
+    ghost lawful = { λ s n. apart n s.a s.b s.c };
+
+    ghost names = { λ _. None };
+
+    ghost scoped = { Prim.search rules };
+
+    ghost named = { Prim.search rules };
+
+    // Three different jobs below n are named.
+    fn is_lawful(&self, n: usize) -> bool {
+        let below = self.jobs().iter().all(|&job| (job as usize) < n);
+        below && self.a != self.b && self.a != self.c && self.b != self.c
+    }
+
+    fn involves(&self, job: u16) -> bool {
+        self.jobs().contains(&job)
+    }
+
+    fn first_job(&self) -> u16 {
+        self.a
+    }
+
+    fn names_distinct(&self) -> Option<Progression> {
+        None
+    }
+
+    fn narrow<L: PlaceSet + Copy>(&self, lists: &mut [L], numbers: &mut [u16]) {
+        let _ = numbers;
+        sweep(self, lists);
     }
 }
 
-// Whether p and some place of the first list are completed by a place of the second.
-fn meets<L: PlaceSet>(first: &L, second: &L, by: Third, p: u16) -> bool
-    requires { p < L.limit }
-    ensures { Decides result (Meets by p (L.has first.now) (L.has second.now)) }
+// Whether some place of the list passes a test.
+// A loop: of `list.places().any(passes)` it stayed unproved that `passes` may be called at each item, and both clauses.
+pub fn any_place<L: PlaceSet, F: Fn(u16) -> bool>(list: &L, passes: F) -> bool
+    requires { (q : ℕ) → q < L.LIMIT → F.pre passes q }
+    ensures found { result ≡ true → (q : ℕ) × (L.has list.now q ≡ true) × F.post passes q true }
+    ensures none { result ≡ false → (q : ℕ) → L.has list.now q ≡ true → F.post passes q false }
 {
-    let mut from = 0;
-    while let Some(q) = first.next_from(from) {
-        if completes(second, by, p, q) {
+    for q in list.places() {
+        if passes(q) {
             return true;
         }
-        from = q + 1;
     }
     false
-}
-
-// The same for the lists of two jobs.
-pub fn jobs_meet<L: PlaceSet>(lists: &[L], first: u16, second: u16, by: Third, p: u16) -> bool
-    requires first { first < length lists.now }
-    requires second { second < length lists.now }
-    requires place { p < L.limit }
-    ensures { Decides result (Meets by p (family L.has lists.now first) (family L.has lists.now second)) }
-{
-    meets(&lists[first as usize], &lists[second as usize], by, p)
-}
-
-// Whether p lies between some places of the two jobs.
-pub fn jobs_differ<L: PlaceSet>(lists: &[L], first: u16, second: u16, p: u16) -> bool
-    requires first { first < length lists.now }
-    requires second { second < length lists.now }
-    requires place { p < L.limit }
-    ensures { Decides result (Meets Third.Sum p (family L.has lists.now first) (family L.has lists.now second) ⊎ Meets Third.Sum p (family L.has lists.now second) (family L.has lists.now first)) }
-{
-    if jobs_meet(lists, first, second, Third::Sum, p) {
-        return true;
-    }
-    jobs_meet(lists, second, first, Third::Sum, p)
 }

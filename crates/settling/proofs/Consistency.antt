@@ -1,5 +1,5 @@
 -- Narrowing keeps every consistent family, and what narrowing leaves is consistent; the laws of the greatest consistent family.
-use Rattle.std.proofs.Common.{◌≡◌, ℕ, zero, suc, ◌<◌, Bool, true, ◌&&◌, eqb, ltb, List, [], ◌∷◌, map, length, get_or, sym, refl, ap, ◌∙◌, subst, ⊎_elim, le_of_suc-le-suc, not-suc-le-zero}
+use Rattle.std.proofs.Common.{◌≡◌, ℕ, zero, suc, ◌<◌, Bool, true, ◌&&◌, ◌==◌, nat_lt, List, [], ◌∷◌, map, length, get_or, sym, refl, ap, ◌∙◌, subst, ⊎_elim, le_of_suc-le-suc, not-suc-le-zero}
 use Rattle.std.specs.List.{ContainsAt as Has, AllByRecursion}
 use Rattle.std.proofs.ByRecursion.{all-has, all_has_itself, All-weaker}
 use Rattle.std.proofs.lemmas.Bool.{or_left, or_right, eq-eqb, eqb-true, ltb-true, lt-ltb, and_parts, and_from}
@@ -11,8 +11,8 @@ use Rattle.settling.specs.Consistency.{Consistent, AllConsistent, Settled, Whole
 
 pub member_at : (scope : List ℕ) (k : ℕ) → k < length scope → member scope (get_or scope k 0) ≡ true
 member_at [] k l = absurd (not-suc-le-zero l)
-member_at (i ∷ scope) zero l = or_left (eqb i i) _ (eq-eqb i i refl)
-member_at (i ∷ scope) (suc k) l = or_right (eqb (get_or scope k 0) i) _ (member_at scope k (le_of_suc-le-suc l))
+member_at (i ∷ scope) zero l = or_left (i == i) _ (eq-eqb i i refl)
+member_at (i ∷ scope) (suc k) l = or_right (get_or scope k 0 == i) _ (member_at scope k (le_of_suc-le-suc l))
 
 module _ {scope : List ℕ} {admits : List ℕ → Bool} where
   -- narrowing takes no place from a consistent family
@@ -85,10 +85,10 @@ module _ {R : Type 0} {scope : R → List ℕ} {admits : R → List ℕ → Bool
 
 -- the family of a whole placing: each of the first n jobs holds its one place
 abbrev pub placing : ℕ → (ℕ → ℕ) → Family
-placing n at j p = ltb j n && eqb p (at j)
+placing n at j p = nat_lt j n && p == at j
 
 placing_place : (n : ℕ) (at : ℕ → ℕ) (j : ℕ) → j < n → placing n at j (at j) ≡ true
-placing_place n at j l = and_from (ltb j n) (eqb (at j) (at j)) (lt-ltb j n l) (eq-eqb (at j) (at j) refl)
+placing_place n at j l = and_from (nat_lt j n) (at j == at j) (lt-ltb j n l) (eq-eqb (at j) (at j) refl)
 
 get_d_map : (at : ℕ → ℕ) (xs : List ℕ) (k : ℕ) → k < length xs → get_or (map at xs) k 0 ≡ at (get_or xs k 0)
 get_d_map at [] k l = absurd (not-suc-le-zero l)
@@ -101,7 +101,7 @@ length_mapped at (x ∷ xs) = ap suc (length_mapped at xs)
 
 placing_consistent : (n : ℕ) (at : ℕ → ℕ) (scope : List ℕ) (admits : List ℕ → Bool) → Scope n scope → admits (map at scope) ≡ true → Consistent scope admits (placing n at)
 placing_consistent n at scope admits sc ok k p l h =
-    let here : p ≡ at (get_or scope k 0) = eqb-true p (at (get_or scope k 0)) (and_parts (ltb (get_or scope k 0) n) (eqb p (at (get_or scope k 0))) h).1 in
+    let here : p ≡ at (get_or scope k 0) = eqb-true p (at (get_or scope k 0)) (and_parts (nat_lt (get_or scope k 0) n) (p == at (get_or scope k 0)) h).1 in
     record {
       row = map at scope;
       sized = length_mapped at scope;
@@ -120,7 +120,7 @@ module _ {R : Type 0} (scope : R → List ℕ) (admits : R → List ℕ → Bool
   settled_placing {rules} {f} n sc s at w j l = s.every j (at j) (record {
     family = placing n at;
     inside = λ i p h.
-        let parts = and_parts (ltb i n) (eqb p (at i)) h in
+        let parts = and_parts (nat_lt i n) (p == at i) h in
         subst (λ q. f i q ≡ true) (sym (eqb-true p (at i) parts.1)) (w.drawn i (ltb-true i n parts.0));
     consistent = all_placing n at rules sc w.admitted;
     holds = placing_place n at j l;

@@ -1,5 +1,5 @@
 -- How many places the lists of a table hold together.
-use Rattle.std.proofs.Common.{◌≡◌, ℕ, zero, suc, ◌+◌, ◌*◌, ◌<◌, ◌≤◌, Bool, true, List, [], ◌∷◌, length, ap, mul-le-mul_right, add-mul, one-mul, arith}
+use Rattle.std.proofs.Common.{◌≡◌, ℕ, zero, suc, ◌+◌, ◌*◌, min, ◌<◌, ◌≤◌, Bool, true, List, [], ◌∷◌, length, ap, mul-le-mul_right, add-mul, one-mul, arith}
 use Rattle.theory.specs.Counts.{count}
 use Rattle.theory.proofs.Sums.{count_le, count_tight}
 use Rattle.places.specs.Families.{family, Inside}
@@ -29,11 +29,14 @@ module _ {L : Type 0} (has : L → ℕ → Bool) (limit : ℕ) where
       let rest = total_le xs ys (omega (arith, e)) (λ i q. h (suc i) q) in
       total_same xs ys law (omega (arith, e)) (λ i q. h (suc i) q) (omega arith) j p u
 
--- the measure of settling falls with the lists, or with the line
-pub falls_lists : (t u m l n : ℕ) → t < u → l ≤ m → t * (m + 1) + l < u * (m + 1) + n
-falls_lists t u m l n less few =
+-- the measure of settling: what t places are left, and n wake-ups of m rules; it falls with the lists, or with the line
+abbrev pub measure : ℕ → ℕ → ℕ → ℕ
+measure t m n = t * (m + 1) + min n m
+
+pub falls_lists : (t u m l n : ℕ) → t < u → measure t m l < measure u m n
+falls_lists t u m l n less =
     let more : (t + 1) * (m + 1) ≤ u * (m + 1) = mul-le-mul_right (m + 1) (omega arith) in
     omega (arith, more, add-mul t 1 (m + 1), one-mul (m + 1))
 
-pub falls_line : (t u m l n : ℕ) → t ≡ u → l + 1 ≡ n → t * (m + 1) + l < u * (m + 1) + n
-falls_line t u m l n same less = omega (arith, ap (λ v. v * (m + 1)) same)
+pub falls_line : (t u m l n : ℕ) → t ≡ u → n ≤ m → l + 1 ≡ n → measure t m l < measure u m n
+falls_line t u m l n same within less = omega (arith, ap (λ v. v * (m + 1)) same)

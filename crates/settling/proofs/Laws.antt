@@ -1,5 +1,5 @@
 -- The theorems on settling.
-use Rattle.std.proofs.Common.{◌≡◌, ℕ, zero, suc, ◌+◌, ◌<◌, Bool, true, false, ◌&&◌, ◌||◌, eqb, ◌⊎◌, List, [], ◌∷◌, length, get_or, sym, refl, ap, ◌∙◌, subst, inl, inr, ⊎_elim, le_of_suc-le-suc, not-suc-le-zero, arith}
+use Rattle.std.proofs.Common.{◌≡◌, ℕ, zero, suc, ◌+◌, ◌<◌, Bool, true, false, ◌&&◌, ◌||◌, ◌==◌, ◌⊎◌, List, [], ◌∷◌, length, get_or, sym, refl, ap, ◌∙◌, subst, inl, inr, ⊎_elim, le_of_suc-le-suc, not-suc-le-zero, arith}
 use Rattle.std.proofs.lemmas.Bool.{eqb-true, and_parts, both_ways, false≢true}
 use Rattle.theory.specs.Lists.{member}
 use Rattle.theory.proofs.Sums.{or_cases}
@@ -54,14 +54,14 @@ drawn_from f (j ∷ scope) (p ∷ row) t (suc i) l = drawn_from f scope row (and
 
 one_of_two : (p : ℕ) → member (0 ∷ 1 ∷ []) p ≡ true → (p ≡ 0) ⊎ (p ≡ 1)
 one_of_two p h =
-    ⊎_elim (λ e. inl (eqb-true p 0 e)) (λ t. ⊎_elim (λ e. inr (eqb-true p 1 e)) (λ f. absurd (false≢true f)) (or_cases (eqb p 1) false t)) (or_cases (eqb p 0) (eqb p 1 || false) h)
+    ⊎_elim (λ e. inl (eqb-true p 0 e)) (λ t. ⊎_elim (λ e. inr (eqb-true p 1 e)) (λ f. absurd (false≢true f)) (or_cases (p == 1) false t)) (or_cases (p == 0) (p == 1 || false) h)
 
 one_of_three : (p : ℕ) → member (0 ∷ 1 ∷ 2 ∷ []) p ≡ true → (p ≡ 0) ⊎ ((p ≡ 1) ⊎ (p ≡ 2))
 one_of_three p h =
     ⊎_elim
     (λ e. inl (eqb-true p 0 e))
-    (λ t. ⊎_elim (λ e. inr (inl (eqb-true p 1 e))) (λ u. ⊎_elim (λ e. inr (inr (eqb-true p 2 e))) (λ f. absurd (false≢true f)) (or_cases (eqb p 2) false u)) (or_cases (eqb p 1) (eqb p 2 || false) t))
-    (or_cases (eqb p 0) (eqb p 1 || (eqb p 2 || false)) h)
+    (λ t. ⊎_elim (λ e. inr (inl (eqb-true p 1 e))) (λ u. ⊎_elim (λ e. inr (inr (eqb-true p 2 e))) (λ f. absurd (false≢true f)) (or_cases (p == 2) false u)) (or_cases (p == 1) (p == 2 || false) t))
+    (or_cases (p == 0) (p == 1 || (p == 2 || false)) h)
 
 -- a support that a row written out gives
 support : (scope : List ℕ) (admits : List ℕ → Bool) (k p : ℕ) (row : List ℕ) → length row ≡ length scope → admits row ≡ true → get_or row k 0 ≡ p → drawn_test three_lists scope row ≡ true → Support scope admits three_lists k p

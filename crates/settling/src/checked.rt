@@ -10,7 +10,7 @@ use crate::agenda::WakeUp;
 use crate::fixed_point::settle;
 use places::PlaceSet;
 use refusals::Refusal;
-use rules::{Rule, check_rules};
+use rules::{Rule, check_job_count, check_rules};
 
 fn check_settle<L: PlaceSet, R: Rule>(
     rules: &[R],
@@ -18,21 +18,18 @@ fn check_settle<L: PlaceSet, R: Rule>(
     numbers: usize,
     wake_ups: usize,
 ) -> Result<(), Refusal>
-    ensures refusal { refusal_of result ≡ settle_refusal (length lists.now) L.limit numbers wake_ups R.lawful rules.now }
-    ensures passed { OnOk result (Admissible (length lists.now) L.limit numbers wake_ups R.lawful rules.now) }
+    ensures refusal { refusal_of result ≡ settle_refusal (length lists.now) L.LIMIT numbers wake_ups R.lawful rules.now }
+    ensures passed { OnOk result (Admissible (length lists.now) L.LIMIT numbers wake_ups R.lawful rules.now) }
 {
     let n = lists.len();
-    if n == 0 || n > 256 {
-        return Err(Refusal::JobCount);
-    }
-    if numbers < 8 * (n + L::width_limit()) || wake_ups < rules.len() {
+    check_job_count(n)?;
+    if numbers < 8 * (n + L::LIMIT) || wake_ups < rules.len() {
         return Err(Refusal::TableTooShort);
     }
     if rules.len() > 64 {
         return Err(Refusal::Full);
     }
-    check_rules(rules, n)?;
-    Ok(())
+    check_rules(rules, n)
 }
 
 // Leaves the greatest consistent family in the lists and answers with the lowest job that it leaves no place, or says why not;
@@ -43,7 +40,7 @@ pub fn settle_family<L: PlaceSet + Copy, R: Rule>(
     numbers: &mut [u16],
     wake_ups: &mut [WakeUp],
 ) -> Result<Option<u16>, Refusal>
-    ensures refusal { refusal_of result ≡ settle_refusal (length lists.old) L.limit (length numbers.old) (length wake_ups.old) R.lawful rules.now }
+    ensures refusal { refusal_of result ≡ settle_refusal (length lists.old) L.LIMIT (length numbers.old) (length wake_ups.old) R.lawful rules.now }
     ensures lists { MatchResult result (λ _. Settled R.scope R.admits rules.now (family L.has lists.old) (family L.has lists.new)) (λ _. lists.new ≡ lists.old) }
     ensures lowest { IfOk result (λ answer. Lowest R.scope R.admits rules.now (length lists.old) (family L.has lists.old) answer) }
     ensures placings { KeepsPlacings R.scope R.admits rules.now (length lists.old) (family L.has lists.old) (family L.has lists.new) }

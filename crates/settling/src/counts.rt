@@ -4,12 +4,14 @@ ghost use Rattle.places.specs.Families.{family};
 ghost use Rattle.settling.specs.Waking.{Noted, FirstZero};
 
 use places::PlaceSet;
+use std::mem;
 
 // Notes the count of each list.
 pub fn note_counts<L: PlaceSet>(lists: &[L], noted: &mut [u16])
     requires { length lists.now ≤ length noted.old }
-    ensures { Noted (length lists.now) L.limit (family L.has lists.now) noted.new }
+    ensures { Noted (length lists.now) L.LIMIT (family L.has lists.now) noted.new }
 {
+    // By the index: after `noted.iter_mut().zip(lists)` a proof knows the length of `noted` alone, and no number.
     for (j, list) in lists.iter().enumerate() {
         noted[j] = list.count();
     }
@@ -21,9 +23,7 @@ pub fn note_count(noted: &mut [u16], j: usize, count: u16) -> bool
     ensures changed { result ≡ not (count == slice_index noted.old j) }
     ensures noted { noted.new ≡ slice_set noted.old j count }
 {
-    let changed = count != noted[j];
-    noted[j] = count;
-    changed
+    mem::replace(&mut noted[j], count) != count
 }
 
 // The index of the first number that is 0.
@@ -31,10 +31,5 @@ pub fn first_zero(noted: &[u16]) -> Option<u16>
     requires { length noted.now ≤ 256 }
     ensures { FirstZero noted.now result }
 {
-    for (j, count) in noted.iter().enumerate() {
-        if *count == 0 {
-            return Some(j as u16);
-        }
-    }
-    None
+    noted.iter().position(|&count| count == 0).map(|j| j as u16)
 }

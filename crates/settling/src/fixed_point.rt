@@ -6,8 +6,7 @@ ghost use Rattle.settling.specs.Consistency.{Settled, Lowest, KeepsPlacings};
 
 use crate::agenda::{Agenda, WakeUp};
 use crate::counts::{first_zero, note_counts};
-use crate::step::run;
-use crate::wake::wake_all;
+use crate::wake::{wake_all, wake_changed};
 use places::PlaceSet;
 use rules::Rule;
 
@@ -23,7 +22,7 @@ pub fn settle<L: PlaceSet + Copy, R: Rule>(
     requires slots { length rules.now ≤ length wake_ups.old }
     requires few { length lists.old ≤ 256 }
     requires lawful { AllByRecursion (λ r. R.lawful r (length lists.old) ≡ true) rules.now }
-    requires memory { 8 * (length lists.old + L.limit) ≤ length numbers.old }
+    requires memory { 8 * (length lists.old + L.LIMIT) ≤ length numbers.old }
     ensures settled { Settled R.scope R.admits rules.now (family L.has lists.old) (family L.has lists.new) }
     ensures lowest { Lowest R.scope R.admits rules.now (length lists.old) (family L.has lists.old) result }
     ensures placings { KeepsPlacings R.scope R.admits rules.now (length lists.old) (family L.has lists.old) (family L.has lists.new) }
@@ -31,8 +30,11 @@ pub fn settle<L: PlaceSet + Copy, R: Rule>(
     let n = lists.len();
     let (noted, work) = numbers.split_at_mut(n);
     note_counts(lists, noted);
-    let mut agenda = Agenda::new(rules.len(), wake_ups);
-    wake_all(&mut agenda, wake_ups, rules);
-    run(rules, lists, noted, work, &mut agenda, wake_ups);
+    let mut agenda = Agenda::new(rules, wake_ups);
+    wake_all(&mut agenda);
+    while let Some(wake_up) = agenda.take_next() {
+        rules[wake_up.rule as usize].narrow(lists, work);
+        wake_changed(&mut agenda, lists, noted);
+    }
     first_zero(noted)
 }

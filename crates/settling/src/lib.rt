@@ -5,7 +5,6 @@ mod agenda;
 mod checked;
 mod counts;
 mod fixed_point;
-mod step;
 mod theorems;
 mod wake;
 

@@ -1,12 +1,11 @@
 -- Lists of numbers as sets.
-use Rattle.std.specs.Prelude.{Bool, true, false, ◌&&◌, ◌||◌, List, [], ◌∷◌, ℕ, eqb, ltb}
+use Rattle.std.specs.Prelude.{Bool, List, ℕ, ◌==◌, nat_lt}
+use Rattle.std.specs.List.{list_all, list_any}
 
 -- q is one of xs
 abbrev pub member : List ℕ → ℕ → Bool
-member [] q = false
-member (x ∷ xs) q = eqb q x || member xs q
+member xs q = list_any (λ x. q == x) xs
 
 -- every number of xs is below n
 abbrev pub all_below : ℕ → List ℕ → Bool
-all_below n [] = true
-all_below n (x ∷ xs) = ltb x n && all_below n xs
+all_below n xs = list_all (λ x. nat_lt x n) xs

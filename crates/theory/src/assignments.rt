@@ -2,99 +2,71 @@
 ghost use Rattle.theory.specs.Theorems.{Bounded, Unsupported, Augments, MovesStart, MovesGoOn, MovesEnd, ForestGrows, Supported, Grouped, NoneFull, OneGroup, Narrows, Rows, RowSupports};
 
 // A set's deficiency is at most the number of jobs without a place.
-pub fn bounded() -> u8
+pub fn bounded()
     ensures { Bounded }
-{
-    0
-}
+{}
 
 // A closed set that comes to no spare place rules a place out.
-pub fn unsupported() -> u8
+pub fn unsupported()
     ensures { Unsupported }
-{
-    0
-}
+{}
 
 // A walk to a spare place assigns one job more.
-pub fn augments() -> u8
+pub fn augments()
     ensures { Augments }
-{
-    0
-}
+{}
 
 // The moves along a search forest start,
-pub fn moves_start() -> u8
+pub fn moves_start()
     ensures { MovesStart }
-{
-    0
-}
+{}
 
 // go on,
-pub fn moves_go_on() -> u8
+pub fn moves_go_on()
     ensures { MovesGoOn }
-{
-    0
-}
+{}
 
 // and end.
-pub fn moves_end() -> u8
+pub fn moves_end()
     ensures { MovesEnd }
-{
-    0
-}
+{}
 
 // A search forest grows.
-pub fn forest_grows() -> u8
+pub fn forest_grows()
     ensures { ForestGrows }
-{
-    0
-}
+{}
 
 // What makes room at a place gives a support.
-pub fn supported() -> u8
+pub fn supported()
     ensures { Supported }
-{
-    0
-}
+{}
 
 // A stuck assignment gives the group,
-pub fn grouped() -> u8
+pub fn grouped()
     ensures { Grouped }
-{
-    0
-}
+{}
 
 // and shows that there is no full one.
-pub fn none_full() -> u8
+pub fn none_full()
     ensures { NoneFull }
-{
-    0
-}
+{}
 
 // There is one group.
-pub fn one_group() -> u8
+pub fn one_group()
     ensures { OneGroup }
-{
-    0
-}
+{}
 
 // The test of narrowing is right.
-pub fn narrows() -> u8
+pub fn narrows()
     ensures { Narrows }
-{
-    0
-}
+{}
 
 // Full assignments of single places are rows with no place twice.
-pub fn rows() -> u8
+pub fn rows()
     ensures { Rows }
-{
-    0
-}
+{}
 
 // Admitted rows are full assignments.
-pub fn row_supports() -> u8
+pub fn row_supports()
     ensures { RowSupports }
-{
-    0
-}
+{}

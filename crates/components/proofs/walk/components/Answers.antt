@@ -1,57 +1,47 @@
-use Rattle.std.proofs.Common.{◌≡◌, ℕ, true, List, length, arith, rules}
-use borrow.Author.Count.{below_more}
-use Rattle.matching.specs.Tables.{filled}
+use Rattle.std.proofs.Common.{ℕ, List, length, subst, subst₂, arith, rules}
+use Rattle.theory.specs.Assignments.{Searched}
+use Rattle.theory.specs.SingleRows.{single}
+use Rattle.matching.specs.Tables.{at}
 use Rattle.matching.proofs.Tables.{filled_with}
-use Rattle.components.specs.Walks.{Setting, setting, tables}
+use Rattle.components.specs.Walks.{Setting, Walked, loose, setting, tables, empty_at}
+use Rattle.components.specs.States.{over, tables_of, heights_of}
 use Rattle.components.proofs.Ends.{walked_starts, searched}
-use Rattle.components.proofs.walk.components.Given as given
+use Rattle.components.proofs.States.{over_same}
+use Rattle.components.proofs.Walks.{empties}
+use Rattle.components.proofs.Follows.{retabled}
 use Rattle.components.proofs.walk.components.Goals as goal
-use Rattle.components.proofs.walk.components.Goals.{then-index-root, else-index-root}
 
--- the setting of a call
-abbrev over : (g : given.Over) → g.row.J.Denot → List ℕ → List ℕ → Setting
-over g s places holders = setting (g.J.Bipartite.jobs s) (g.J.Bipartite.width s) (g.J.Bipartite.holds s) places holders
-
-pub loop-root-init : goal.loop-root-init
-loop-root-init g c =
-    let o = over g c.args.jobs.now c.args.full.now.places.now c.args.full.now.holders.now in
-    let index = c.fill.new.self in
-    let labels = c.fill-2.new.self in
-    let cursors = c.fill-3.new.self in
-    let b = c.requires.tables in (
-      walked_starts o (tables cursors index labels c.args.nodes.now c.args.cuts.now c.args.path.now) c.requires.full.few
-          (record {
-            cursors = omega (arith, b.cursors, c.fill-3.ensures.len);
-            index = omega (arith, b.index, c.fill.ensures.len);
-            labels = omega (arith, b.labels, c.fill-2.ensures.len);
-            nodes = b.nodes;
-            cuts = b.cuts;
-            path = b.path;
-          })
-          (λ k l. filled_with index (length c.args.index.now) (c.fill.ensures.after (λ y e. e)) k (omega (arith, b.index, c.fill.ensures.len)))
-          (λ k l. filled_with labels (length c.args.labels.now) (c.fill-2.ensures.after (λ y e. e)) k (omega (arith, b.labels, c.fill-2.ensures.len)))
-          (λ k l. filled_with cursors (length c.args.cursors.now) (c.fill-3.ensures.after (λ y e. e)) k (omega (arith, b.cursors, c.fill-3.ensures.len))),
-      λ a l. absurd (omega arith),
-    )
+pub explore_all-requires-clause-state : goal.explore_all-requires-clause-state
+explore_all-requires-clause-state g c =
+    let j = g.J.Bipartite in
+    let m = c.args.full.now in
+    let o = setting (j.jobs m.jobs.now) g.J.List.PlaceSet.LIMIT (j.holds m.jobs.now) m.places.now m.holders.now in
+    let cursors = c.fill.new.self in
+    let index = c.fill-2.new.self in
+    let labels = c.fill-3.new.self in
+    let b = c.requires.tables in
+    retabled o (search rules) (search rules)
+    (walked_starts o (tables cursors index labels c.args.scratch.nodes.now c.args.scratch.cuts.now c.args.scratch.path.now) m.few
+    (record {
+      cursors = omega (arith, b.cursors, c.fill.ensures.len);
+      index = omega (arith, b.index, c.fill-2.ensures.len);
+      labels = omega (arith, b.labels, c.fill-3.ensures.len);
+      nodes = b.nodes;
+      cuts = b.cuts;
+      path = b.path;
+    })
+    (λ k l. filled_with index (length c.args.index.now) (c.fill-2.ensures.after (λ y e. e)) k (omega (arith, b.index, c.fill-2.ensures.len)))
+    (λ k l. filled_with labels (length c.args.labels.now) (c.fill-3.ensures.after (λ y e. e)) k (omega (arith, b.labels, c.fill-3.ensures.len)))
+    (λ k l. filled_with cursors (length c.args.scratch.cursors.now) (c.fill.ensures.after (λ y e. e)) k (omega (arith, b.cursors, c.fill.ensures.len))))
 
 pub returns : goal.returns
 returns g c =
-    let o = over g c.args.jobs.now c.args.full.now.places.now c.args.full.now.holders.now in
-    searched o c.requires.full (tables c.loop-root.cursors c.loop-root.index c.loop-root.labels c.loop-root.nodes c.loop-root.cuts c.loop-root.path) c.loop-root.next
-    c.loop-root.invariant.0 (λ a l. c.loop-root.invariant.1 a (omega (arith, c.requires.places)))
-
-pub loop-root-preserved : goal.loop-root-preserved
-loop-root-preserved g c =
-    elim c.if-index-root.branch [
-      | then-index-root w ↦
-          simp (w.cursors-is, w.index-is, w.labels-is, w.nodes-is, w.cuts-is, w.path-is, w.next-is) (
-            w.explore-next.ensures.state,
-            below_more (λ k. filled w.explore-next.new.index k ≡ true) c.loop-root.root (λ k l. w.explore-next.ensures.seen k (c.loop-root.invariant.1 k l)) w.explore-next.ensures.root,
-          )
-      | else-index-root w ↦
-          let here : filled c.loop-root.index c.loop-root.root ≡ true = search rules in
-          simp (w.cursors-is, w.index-is, w.labels-is, w.nodes-is, w.cuts-is, w.path-is, w.next-is) (
-            c.loop-root.invariant.0,
-            below_more (λ k. filled c.loop-root.index k ≡ true) c.loop-root.root c.loop-root.invariant.1 here,
-          )
-    ]
+    let j = g.J.Bipartite in
+    let m = c.args.full.now in
+    let v = c.explore_all.new.self in
+    let o = setting (j.jobs m.jobs.now) g.J.List.PlaceSet.LIMIT (j.holds m.jobs.now) m.places.now m.holders.now in
+    let e = c.explore_all.ensures in
+    let k : Walked o (tables_of v) (empty_at v.next) =
+    subst (λ (x : Setting). Walked x (tables_of v) (empty_at v.next)) (over_same _ v e.state.keeps) (empties (over v) (tables_of v) (heights_of v) e.state.walked e.idle) in
+    subst₂ (λ (i l : List ℕ). Searched (single (j.jobs m.jobs.now) g.J.List.PlaceSet.LIMIT (j.holds m.jobs.now)) (at m.places.now) (loose i) (at l)) {x = v.index.now} {u = v.labels.now} (search rules) (search rules)
+    (searched o (record { few = m.few; narrow = g.met.J.List.PlaceSet.bounded.1; matched = m.matched; every = c.requires.every }) (tables_of v) v.next k e.all)

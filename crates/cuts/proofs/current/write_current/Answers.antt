@@ -4,9 +4,6 @@ use Rattle.places.specs.Families.{family}
 use Rattle.cuts.specs.Current.{current}
 use Rattle.cuts.proofs.current.write_current.Goals as goal
 
-pub loop-cut-init : goal.loop-cut-init
-loop-cut-init g c = ap (λ xs. current (family g.L.PlaceSet.has xs) c.args.cuts.now) c.copy_from_slice.ensures.after
-
 pub loop-cut-preserved : goal.loop-cut-preserved
 loop-cut-preserved g c =
     let rest = drop (c.loop-cut.cut-index + 1) c.args.cuts.now in

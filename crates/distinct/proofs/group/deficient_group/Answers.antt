@@ -1,6 +1,7 @@
 use Rattle.std.proofs.Common.{◌≤◌, length, ◌∙◌, arith}
 use Rattle.places.specs.Families.{family}
 use Rattle.rules.specs.Progressions.{jobs_of}
+use Rattle.distinct.proofs.Countings.{missing}
 use Rattle.distinct.proofs.Spreads.{count_is, count_few, job_below, last_below}
 use Rattle.distinct.proofs.Tellings.{told}
 use Rattle.distinct.proofs.group.deficient_group.Goals as goal
@@ -39,7 +40,7 @@ pub returns : goal.returns
 returns g c =
     let d = c.args.jobs.now in
     let n = length c.args.lists.now in
-    told n d.count g.L.PlaceSet.limit (family g.L.PlaceSet.has c.args.lists.now) (jobs_of d) c.match_jobs.new.places c.match_jobs.new.holders c.match_jobs.new.parents
+    told n d.count g.L.PlaceSet.LIMIT (family g.L.PlaceSet.has c.args.lists.now) (jobs_of d) c.match_jobs.new.places c.match_jobs.new.holders c.match_jobs.new.parents
     c.requires.scope (count_is d n c.requires.scope) c.match_jobs.ensures c.args.table.now c.list_marked.new.table c.list_marked.result c.count_none.result
     (c.match_jobs.auto.places ∙ c.split_at_mut-places.ensures.front_len) c.list_marked.ensures.listed c.list_marked.ensures.rest
-    (omega (arith, c.list_marked.ensures.len, c.list_marked.auto.table)) c.count_none.ensures
+    (omega (arith, c.list_marked.ensures.len, c.list_marked.auto.table)) (c.count_none.ensures ∙ missing c.match_jobs.new.places)

@@ -3,7 +3,7 @@ use Rattle.places.specs.Families.{family}
 use Rattle.places.proofs.Families.{family_all}
 use Rattle.rules.specs.Progressions.{jobs_of}
 use Rattle.distinct.proofs.Narrowings.{narrowed_full}
-use Rattle.distinct.proofs.Spreads.{count_is, job_below, last_below}
+use Rattle.distinct.proofs.Spreads.{count_is, last_below}
 use Rattle.distinct.proofs.narrow.narrow_full.Goals as goal
 
 pub invariant_of-components : goal.invariant_of-components
@@ -16,7 +16,6 @@ sift_all-requires g c =
     let (lp, lc, lm, ln) = c.requires.tables in
     record {
       scope = c.requires.scope;
-      fits = job_below d (length c.args.lists.now) c.requires.scope;
       tables = record {
         places_fit = omega (arith, lp);
         holders_fit = f.matched.holders_fit;
@@ -30,7 +29,7 @@ pub returns : goal.returns
 returns g c =
     let d = c.args.jobs.now in
     let has = g.L.PlaceSet.has in
-    let limit = g.L.PlaceSet.limit in
+    let limit = g.L.PlaceSet.LIMIT in
     narrowed_full (jobs_of d) d.count limit (count_is d (length c.args.lists.now) c.requires.scope) (family has c.args.lists.now) (family has c.sift_all.new.lists)
     (family_all has (λ p. p < limit) g.met.L.PlaceSet.within c.args.lists.now) c.args.places.now c.args.holders.now c.components.new.labels c.components.new.index
     c.requires.full c.components.ensures c.sift_all.ensures

@@ -1,18 +1,45 @@
-use Rattle.std.proofs.Common.{false, length, get_or, ◌∙◌, arith}
+use Rattle.std.proofs.Common.{◌≡◌, ◌+◌, ◌<◌, false, length, get_or, set, ◌++◌, ◌∷◌, [], ◌∙◌, ap, arith, rules, subst}
+use Rattle.std.proofs.lemmas.List.{length_push}
 use Rattle.places.specs.Families.{family}
+use Rattle.rules.specs.Jobs.{jobs_left}
 use Rattle.rules.specs.Progressions.{jobs_of}
+use Rattle.rules.proofs.Progressions.{job_of_turn, jobs_all}
+use Rattle.distinct.specs.Scopes.{Sifted}
 use Rattle.distinct.proofs.Siftings.{sifted_more, fixed_none}
-use Rattle.distinct.proofs.Spreads.{job_is, jobs_apart}
+use Rattle.distinct.proofs.Spreads.{count_is, jobs_apart}
 use Rattle.distinct.proofs.sift.empty_all.Goals as goal
 
-pub loop-i-preserved : goal.loop-i-preserved
-loop-i-preserved g c =
+pub bounds-lists-job : goal.bounds-lists-job
+bounds-lists-job g c =
+    let d = c.args.jobs.now in
+    let at = job_of_turn d _ _ c.next.new.self _ c.loop-job.yielded c.in-Some.job (ap jobs_left c.into_iter-job-iterator.ensures.into_iter_gives ∙ c.iter-job-items.ensures) c.loop-job.yielded_by c.in-Some.is c.next.ensures.steps in
+    omega (arith, at.1, c.requires.scope.below (length c.loop-job.yielded) (omega (arith, at.0, count_is d (length c.args.lists.now) c.requires.scope)), c.loop-job.auto.lists)
+
+pub offset_bounds-lists-job : goal.offset_bounds-lists-job
+offset_bounds-lists-job g c =
+    let d = c.args.jobs.now in
+    let at = job_of_turn d _ _ c.next.new.self _ c.loop-job.yielded c.in-Some.job (ap jobs_left c.into_iter-job-iterator.ensures.into_iter_gives ∙ c.iter-job-items.ensures) c.loop-job.yielded_by c.in-Some.is c.next.ensures.steps in
+    let within : c.in-Some.job < length c.loop-job.lists =
+    omega (arith, at.1, c.requires.scope.below (length c.loop-job.yielded) (omega (arith, at.0, count_is d (length c.args.lists.now) c.requires.scope)), c.loop-job.auto.lists) in
+    search rules
+
+pub loop-job-preserved : goal.loop-job-preserved
+loop-job-preserved g c =
     let d = c.args.jobs.now in
     let has = g.L.PlaceSet.has in
     let n = length c.args.lists.now in
-    let i = c.loop-i.i in
-    let x = get_or c.loop-i.lists c.job_at.result c.index-lists-job_at.result in
-    sifted_more has (jobs_of d) i (λ k q. false) (family has c.args.lists.now) c.loop-i.lists c.job_at.result c.fix.new.self c.index-lists-job_at.result
-    (λ k l. jobs_apart d n c.requires.scope k i l c.loop-i-test.true) (c.job_at.ensures ∙ job_is d n c.requires.scope i c.loop-i-test.true)
-    (omega (arith, c.job_at.ensures, c.requires.fits i c.loop-i-test.true, c.loop-i.auto.lists)) c.loop-i.invariant
-    (fixed_none (has x) g.L.PlaceSet.limit g.met.L.PlaceSet.bounded.1 (g.met.L.PlaceSet.within x) (has c.fix.new.self) c.fix.ensures.after)
+    let i = length c.loop-job.yielded in
+    let at = job_of_turn d _ _ c.next.new.self _ c.loop-job.yielded c.in-Some.job (ap jobs_left c.into_iter-job-iterator.ensures.into_iter_gives ∙ c.iter-job-items.ensures) c.loop-job.yielded_by c.in-Some.is c.next.ensures.steps in
+    let x = get_or c.loop-job.lists c.in-Some.job c.index-lists-job.result in
+    let within : c.in-Some.job < length c.loop-job.lists = omega (arith, at.1, c.requires.scope.below i (omega (arith, at.0, count_is d n c.requires.scope)), c.loop-job.auto.lists) in
+    let more : i + 1 ≡ length (c.loop-job.yielded ++ c.in-Some.job ∷ []) = omega (arith, length_push c.loop-job.yielded c.in-Some.job) in
+    subst (λ k. Sifted (jobs_of d) k (λ k q. false) (family has c.args.lists.now) (family has (set c.loop-job.lists c.in-Some.job c.fix.new.self))) more
+    (sifted_more has (jobs_of d) i (λ k q. false) (family has c.args.lists.now) c.loop-job.lists c.in-Some.job c.fix.new.self c.index-lists-job.result
+    (λ k l. jobs_apart d n c.requires.scope k i l at.0) at.1 within c.loop-job.invariant
+    (fixed_none (has x) g.L.PlaceSet.LIMIT g.met.L.PlaceSet.bounded.1 (g.met.L.PlaceSet.within x) (has c.fix.new.self) c.fix.ensures.after))
+
+pub returns : goal.returns
+returns g c =
+    let d = c.args.jobs.now in
+    let all = jobs_all d _ _ c.next.new.self _ c.loop-job.yielded (ap jobs_left c.into_iter-job-iterator.ensures.into_iter_gives ∙ c.iter-job-items.ensures) c.loop-job.yielded_by c.in-None.is c.next.ensures.steps in
+    subst (λ k. Sifted (jobs_of d) k (λ k q. false) (family g.L.PlaceSet.has c.args.lists.now) (family g.L.PlaceSet.has c.loop-job.lists)) all c.loop-job.invariant

@@ -1,55 +1,34 @@
 use Rattle.std.proofs.Common.{length, refl}
 use Rattle.board.specs.Book.{held_by}
-use Rattle.board.specs.Outcomes.{lengths}
+use Rattle.board.specs.Lent.{lent}
 use Rattle.history.specs.Calls.{kinds}
-use Rattle.history.proofs.Asking.{tried, told_group, not_settled}
+use Rattle.history.proofs.Asking.{tried, asked_group, settled_by}
 use Rattle.history.proofs.ask.ask.Goals as goal
 
-pub returns-in-Ok-trial : goal.returns-in-Ok-trial
-returns-in-Ok-trial g c =
-    let K = kinds g.L.PlaceSet.has g.L.PlaceSet.limit g.R.Rule.scope g.R.Rule.admits g.R.Rule.lawful g.R.Rule.names in
-    let b = held_by c.args.board.numbers in
-    let opened = c.args.opened.now in
-    let rules = c.args.rules.now in
-    let log = c.args.log.now in
-    let standing = c.args.standing.now in
-    let group = c.args.group.now in
-    let l = lengths (length opened) (length rules) (length log) (length standing) (length group) (length c.args.working.now) (length c.args.numbers.now) (length c.args.wake_ups.now) in
-    let st = c.args.board.stage in
-    record {
-      same = search rules;
-      asked = tried K b opened rules l log c.trial.new.log st standing standing group group c.args.asked c.in-Ok-trial.yes _ c.in-Trial.job c.in-Trial.place c.in-Trial.is c.told.ensures c.in-Ok-trial.ensures.answer c.trial.ensures.log;
-    }
+pub returns-in-Trial-clause-asked : goal.returns-in-Trial-clause-asked
+returns-in-Trial-clause-asked g c =
+    let K = kinds g.L.PlaceSet.has g.L.PlaceSet.LIMIT g.R.Rule.scope g.R.Rule.admits g.R.Rule.lawful g.R.Rule.names in
+    let course = c.args.course in
+    let l = lent course c.args.log.now (length c.args.standing.now) (length c.args.group.now) c.args.memory.now in
+    rw c.in-Trial.is
+    (tried K (held_by c.args.board.numbers) course.opened.now course.rules.now l c.args.log.now c.trial-free.new.log c.args.board.stage c.args.standing.now c.args.standing.now c.args.group.now c.args.group.now
+    c.trial-free.result c.into.result c.in-Trial.job c.in-Trial.place c.into.ensures c.trial-free.ensures.answer c.trial-free.ensures.log)
 
-pub returns-in-Ok-group : goal.returns-in-Ok-group
-returns-in-Ok-group g c =
-    let K = kinds g.L.PlaceSet.has g.L.PlaceSet.limit g.R.Rule.scope g.R.Rule.admits g.R.Rule.lawful g.R.Rule.names in
-    let b = held_by c.args.board.numbers in
-    let opened = c.args.opened.now in
-    let rules = c.args.rules.now in
-    let log = c.args.log.now in
-    let standing = c.args.standing.now in
-    let group = c.args.group.now in
-    let l = lengths (length opened) (length rules) (length log) (length standing) (length group) (length c.args.working.now) (length c.args.numbers.now) (length c.args.wake_ups.now) in
-    let st = c.args.board.stage in
-    record {
-      same = search rules;
-      asked = told_group K b opened rules l log log st standing standing group c.group.new.table c.args.asked c.in-Group.rule c.in-Ok-group.found c.in-Group.is c.in-Ok-group.ensures;
-    }
+pub returns-in-Group-clause-asked : goal.returns-in-Group-clause-asked
+returns-in-Group-clause-asked g c =
+    let K = kinds g.L.PlaceSet.has g.L.PlaceSet.LIMIT g.R.Rule.scope g.R.Rule.admits g.R.Rule.lawful g.R.Rule.names in
+    let course = c.args.course in
+    let l = lent course c.args.log.now (length c.args.standing.now) (length c.args.group.now) c.args.memory.now in
+    rw c.in-Group.is
+    (asked_group K (held_by c.args.board.numbers) course.opened.now course.rules.now l c.args.log.now c.args.log.now c.args.board.stage c.args.standing.now c.args.standing.now c.args.group.now c.group-found.new.table
+    c.group-found.result c.into-in-Group.result c.in-Group.rule c.into-in-Group.ensures c.group-found.ensures.group)
 
-pub returns-in-Err-settle : goal.returns-in-Err-settle
-returns-in-Err-settle g c =
-    let K = kinds g.L.PlaceSet.has g.L.PlaceSet.limit g.R.Rule.scope g.R.Rule.admits g.R.Rule.lawful g.R.Rule.names in
-    let b = held_by c.args.board.numbers in
-    let opened = c.args.opened.now in
-    let rules = c.args.rules.now in
-    let log = c.args.log.now in
-    let standing = c.args.standing.now in
-    let group = c.args.group.now in
-    let l = lengths (length opened) (length rules) (length log) (length standing) (length group) (length c.args.working.now) (length c.args.numbers.now) (length c.args.wake_ups.now) in
-    let st = c.args.board.stage in
-    let e = c.in-Err-settle.ensures in
-    record {
-      same = search rules;
-      asked = not_settled K b opened rules l log log st standing c.settle.new.standing group group c.args.asked c.in-Err-settle.rejected.refusal c.in-Settle.is e.refusal e.standing c.args.board c.in-Err-settle.rejected.board e.board refl refl;
-    }
+pub returns-in-Settle-clause-asked : goal.returns-in-Settle-clause-asked
+returns-in-Settle-clause-asked g c =
+    let K = kinds g.L.PlaceSet.has g.L.PlaceSet.LIMIT g.R.Rule.scope g.R.Rule.admits g.R.Rule.lawful g.R.Rule.names in
+    let course = c.args.course in
+    let l = lent course c.args.log.now (length c.args.standing.now) (length c.args.group.now) c.args.memory.now in
+    let e = c.settle.ensures in
+    rw c.in-Settle.is
+    (settled_by K (held_by c.args.board.numbers) course.opened.now course.rules.now l c.args.log.now c.args.log.now c.args.board.stage c.args.standing.now c.settle.new.standing c.args.group.now c.args.group.now
+    c.settle.result c.args.board c.moved-in-Settle.result.0 c.moved-in-Settle.result.1 refl refl e.refusal e.board e.standing c.moved-in-Settle.ensures)

@@ -1,13 +1,10 @@
-use Rattle.std.proofs.Common.{◌≡◌, eqb, sym, refl}
-use Rattle.std.proofs.lemmas.List.Elements.{contains_decides}
-use Rattle.std.proofs.lemmas.Bool.Decides.{same_from_decides, Decides-by_or, Decides-like, Decides-eqb}
-use Rattle.theory.specs.Lists.{member}
+use Rattle.std.proofs.Common.{◌==◌, refl, rules, tests}
+use Rattle.std.proofs.lemmas.Iterator.Consumers.{YieldsList-from_first}
+use Rattle.std.proofs.lemmas.Iterator.Search.{any_from_yields_List}
+use Rattle.places.specs.Rising.{rising_rest}
 use Rattle.places.proofs.rising.has_place.Goals as goal
 
 pub returns : goal.returns
 returns c =
-    let ys = c.args.rising.now in
-    let p = c.args.place in
-    same_from_decides c.contains.result (member ys p)
-    (contains_decides eqb Decides-eqb ys p c.contains.result c.contains.ensures.cases)
-    (Decides-by_or (λ y. eqb p y) (λ y. y ≡ p) (λ zs. member zs p) (λ y. Decides-like (eqb p y) sym sym (Decides-eqb p y)) refl (λ _ _. refl) ys)
+    any_from_yields_List (λ x. c.args.place == x) c.any.new.self _ c.any.result c.any.ensures.ran
+    (YieldsList-from_first (λ x. x) rising_rest (rising_rest c.args.rising) refl) (λ x b q k. search (rules, tests))

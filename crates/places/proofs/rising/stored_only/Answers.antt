@@ -1,17 +1,21 @@
-use Rattle.std.proofs.Common.{◌≡◌, true, ◌&&◌, eqb, sym, ap, ◌∙◌}
-use Rattle.std.proofs.lemmas.Bool.{lt-ltb}
-use Rattle.theory.specs.Lists.{member}
-use Rattle.places.specs.Fronts.{member_within}
-use Rattle.places.proofs.Fronts.{alone}
-use Rattle.places.proofs.Picks.{only_held, only_missed}
+use Rattle.std.proofs.Common.{ℕ, Bool, filter, length, ◌==◌, ap, refl, ◌∙◌, arith, rules, tests}
+use Rattle.std.proofs.lemmas.Iterator.Consumers.{YieldsList-at, YieldsList-from_filter, YieldsList-from_first}
+use Rattle.places.specs.declared.rising.Rising.{Rising}
+use Rattle.places.specs.Fronts.{front_rises}
+use Rattle.places.specs.Rising.{rising_rest}
+use Rattle.places.proofs.Fronts.{filtered_rises, member_filtered, rises_lower, stored_set}
 use Rattle.places.proofs.rising.stored_only.Goals as goal
 
-pub returns-then-not-has_place : goal.returns-then-not-has_place
-returns-then-not-has_place c q = sym (only_missed (member c.args.rising.now) c.args.place q (sym c.if-not-has_place.ensures))
+pub stored-requires-clause-few : goal.stored-requires-clause-few
+stored-requires-clause-few c = (tt, omega (arith, ap (λ (s : Rising). length (rising_rest s)) c.filter.ensures.source, c.requires))
 
 pub returns : goal.returns
 returns c q =
-    let p = c.args.place in
-    let xs = c.args.rising.now in
-    let held : member xs p ≡ true = sym c.if-not-has_place.ensures in
-    alone p q ∙ ap (λ b. b && eqb q p) (lt-ltb p 2048 (member_within 0 xs p c.requires held).1) ∙ sym (only_held (member xs) p q held)
+    let s = c.args.rising in
+    let ys = rising_rest s in
+    let f : ℕ → Bool = λ held. held == c.args.place in
+    let wider = filtered_rises f s.low ys (front_rises s.low s.rest.now) in
+    stored_set c.stored.result (filter f ys) c.stored.ensures
+    (YieldsList-from_filter _ f (YieldsList-at c.filter.ensures.source (YieldsList-from_first (λ x. x) rising_rest ys refl)) c.filter.ensures.closure (λ x b q k. search (rules, tests)))
+    (rises_lower 0 s.low (filter f ys) (omega arith) wider) q
+    ∙ member_filtered f ys q

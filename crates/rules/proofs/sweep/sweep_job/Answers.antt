@@ -1,37 +1,48 @@
-use Rattle.std.proofs.Common.{ℕ, get_or, sym, ◌∙◌, subst, arith}
-use Rattle.places.specs.Families.{family}
+use Rattle.std.proofs.Common.{◌≡◌, slice_index_or, sym, ap, ◌∙◌, subst, arith}
+use Rattle.std.proofs.lemmas.Bool.{both_ways}
+use Rattle.std.proofs.lemmas.Bool.Decides.{not_from_Decides}
 use Rattle.places.proofs.Families.{family_job}
 use Rattle.rules.specs.Narrowing.{Scope}
-use Rattle.rules.proofs.Narrowing.{trimmed_trans, swept_more, swept_all}
+use Rattle.rules.specs.Triples.{three_jobs}
+use Rattle.rules.proofs.Narrowing.{trimmed_refl, trimmed_trans, trimmed_struck, swept_more, struck_job, struck_gone, struck_kept}
 use Rattle.rules.proofs.sweep.sweep_job.Goals as goal
 
-pub sweep_place-requires : goal.sweep_place-requires
-sweep_place-requires g c =
-    let jobs = g.S.Search.jobs c.args.search.now in
-    let scope = subst (λ n. Scope n jobs) (sym c.loop-p.auto.lists) c.requires.scope in
-    let read = λ (q : ℕ). family_job g.L.PlaceSet.has c.loop-p.lists c.job-job.result (get_or jobs c.args.k 0) q c.index-lists-job.result c.job-job.ensures (scope.below c.args.k c.requires.position) in
-    record { position = c.requires.position; scope = scope; held = read c.in-Some.p ∙ c.in-Some.ensures.first.1 }
-
-pub loop-p-preserved : goal.loop-p-preserved
-loop-p-preserved g c =
-    let jobs = g.S.Search.jobs c.args.search.now in
-    let scope = subst (λ n. Scope n jobs) (sym c.loop-p.auto.lists) c.requires.scope in
-    let read = λ (q : ℕ). family_job g.L.PlaceSet.has c.loop-p.lists c.job-job.result (get_or jobs c.args.k 0) q c.index-lists-job.result c.job-job.ensures (scope.below c.args.k c.requires.position) in
-    let step = c.sweep_place.ensures in
-    let first = c.in-Some.ensures.first in (
-      omega (arith, g.met.L.PlaceSet.within (get_or c.loop-p.lists c.job-job.result c.index-lists-job.result) c.in-Some.p first.1),
-      trimmed_trans c.loop-p.invariant.1 step.trimmed,
-      swept_more c.args.k c.loop-p.from c.in-Some.p c.loop-p.invariant.1 step.trimmed step.swept c.loop-p.invariant.2 (λ q l h. read q ∙ first.2 q l h),
+pub loop-p-init : goal.loop-p-init
+loop-p-init g c =
+    let has = g.L.PlaceSet.has in
+    let x = c.index-lists-job.result in
+    let start = c.into_iter-p-iterator.ensures.into_iter_gives in
+    let from : c.into_iter-p-iterator.result.from ≡ 0 = ap (λ i. i.from) start ∙ c.places-p-items.ensures.first in
+    let list : c.into_iter-p-iterator.result.list.now ≡ slice_index_or c.args.lists.now c.args.job x = ap (λ i. i.list.now) start ∙ c.places-p-items.ensures.list ∙ c.index-lists-job.is in (
+      omega arith,
+      trimmed_refl _,
+      λ q l. absurd (omega arith),
+      λ q l. family_job has c.args.lists.now c.args.job _ q x c.requires.job (c.requires.scope.below c.args.k c.requires.position) ∙ ap (λ y. has y q) (sym list),
     )
 
-pub returns : goal.returns
-returns g c =
+-- the place has no support
+pub loop-p-preserved-then-not-supports : goal.loop-p-preserved-then-not-supports
+loop-p-preserved-then-not-supports g c =
     let has = g.L.PlaceSet.has in
-    let jobs = g.S.Search.jobs c.args.search.now in
-    let scope = subst (λ n. Scope n jobs) (sym c.loop-p.auto.lists) c.requires.scope in
-    let read = λ (q : ℕ). family_job has c.loop-p.lists c.job-job.result (get_or jobs c.args.k 0) q c.index-lists-job.result c.job-job.ensures (scope.below c.args.k c.requires.position) in
-    record {
-      trimmed = c.loop-p.invariant.1;
-      swept = swept_all (family has c.args.lists.now) (family has c.loop-p.lists) c.args.k c.loop-p.from c.loop-p.invariant.2
-          (λ q l. read q ∙ c.in_default.ensures.first q l);
-    }
+    let scope = subst (λ n. Scope n (three_jobs c.args.rule.now)) (sym c.loop-p.auto.lists) c.requires.scope in
+    let (list, (low, held, none), next) = c.in-Some.ensures.steps in
+    let (within, trimmed, done, ahead) = c.loop-p.invariant in
+    let struck = struck_job has c.loop-p.lists _ _ c.in-Some.p _ c.strike.new.self c.requires.job (scope.below c.args.k c.requires.position) c.strike.ensures.after in
+    let step = trimmed_struck scope c.requires.position struck (not_from_Decides _ c.supports.ensures c.if-not-supports.true) in (
+      omega (arith, g.met.L.PlaceSet.within c.loop-p.p-iterator.list.now c.in-Some.p held, next),
+      trimmed_trans trimmed step,
+      λ q l. swept_more c.args.k c.loop-p.p-iterator.from c.in-Some.p trimmed step (λ h. absurd (both_ways _ (struck_gone struck) h)) done (λ i b h. ahead i b ∙ none i b h) q (omega (arith, next)),
+      λ q l. struck_kept struck q (λ e. absurd (omega (arith, next))) ∙ ahead q (omega (arith, next)) ∙ ap (λ y. has y q) (sym list),
+    )
+
+-- the place has one
+pub loop-p-preserved : goal.loop-p-preserved
+loop-p-preserved g c =
+    let has = g.L.PlaceSet.has in
+    let (list, (low, held, none), next) = c.in-Some.ensures.steps in
+    let (within, trimmed, done, ahead) = c.loop-p.invariant in (
+      omega (arith, g.met.L.PlaceSet.within c.loop-p.p-iterator.list.now c.in-Some.p held, next),
+      trimmed,
+      λ q l. swept_more c.args.k c.loop-p.p-iterator.from c.in-Some.p trimmed (trimmed_refl _) (λ h. c.supports.ensures.0 c.if-not-supports.false) done (λ i b h. ahead i b ∙ none i b h) q (omega (arith, next)),
+      λ q l. ahead q (omega (arith, next)) ∙ ap (λ y. has y q) (sym list),
+    )

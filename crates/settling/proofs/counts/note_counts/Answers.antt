@@ -11,4 +11,4 @@ loop-j-preserved g c =
     let here = family_list m.has c.args.lists.now j c.index-lists-j.result c.loop-j-test.true c.index-lists-j.is in
     below_more _ _
     (λ k h. let ne : k ≢ j = omega arith in rw get_or-set_other (c.loop-j.invariant k h))
-    (get_or-set_same _ _ _ _ within ∙ c.count.ensures.value ∙ ap (λ u. count u m.limit) here)
+    (get_or-set_same _ _ _ _ within ∙ c.count.ensures.value ∙ ap (λ u. count u m.LIMIT) here)

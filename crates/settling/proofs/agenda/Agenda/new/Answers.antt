@@ -1,11 +1,6 @@
-use Rattle.std.proofs.Common.{refl}
-use Rattle.settling.proofs.Agendas.{agreed_new, entries_none, marks_clear}
+use Rattle.std.proofs.Common.{arith}
+use Rattle.settling.proofs.Agendas.{agreed_new}
 use Rattle.settling.proofs.agenda.Agenda.new.Goals as goal
 
-pub returns : goal.returns
-returns c = record {
-  agreed = agreed_new c.args.rules c.new.result c.args.slots.now c.requires.few c.requires.room (c.new.ensures.ready _) c.new.ensures.empty;
-  rules = refl;
-  empty = entries_none c.new.result c.args.slots.now c.new.ensures.empty;
-  none = marks_clear 64;
-}
+pub invariant_of-result : goal.invariant_of-result
+invariant_of-result g c = agreed_new g.R.Rule.scope c.args.rules.now c.new.result.capacity c.new.result.entries c.requires.few (omega (arith, c.requires.room, c.new.ensures.capacity)) c.new.ensures.empty

@@ -1,14 +1,8 @@
-use Rattle.std.proofs.Common.{refl}
-use Rattle.settling.proofs.Agendas.{agreed_take, taken_one}
+use Rattle.settling.proofs.Agendas.{taken_one, agreed_within}
 use Rattle.settling.proofs.agenda.Agenda.take_next.Goals as goal
 
-pub returns-in-Some : goal.returns-in-Some
-returns-in-Some c =
-    let a = c.args.self.now in
-    let slots = c.args.slots.now in
-    let popped = c.in-Some.ensures in
-    record {
-      agreed = agreed_take a slots c.pop_front.new.self c.in-Some.wake_up c.requires popped.ready popped.holds;
-      rules = refl;
-      taken = taken_one a slots c.pop_front.new.self c.in-Some.wake_up c.requires popped.ready popped.holds;
-    }
+pub returns-clause-taken : goal.returns-clause-taken
+returns-clause-taken g c = rw (← c.self.view_is) (taken_one c.self.invariant c.in_ok-wake_up.wake_up _ c.in_ok-wake_up.ensures.oldest)
+
+pub returns-clause-within : goal.returns-clause-within
+returns-clause-within g c = rw (← c.self.view_is) (agreed_within c.self.invariant)

@@ -1,23 +1,28 @@
-use Rattle.std.proofs.Common.{true, sym, ◌∙◌, arith}
-use Rattle.std.proofs.lemmas.Bool.{cond-false}
-use Rattle.settling.proofs.Agendas.{agreed_wake, agreed_room, woken_one}
+use Rattle.std.proofs.Common.{rules}
+use Rattle.settling.specs.declared.agenda.WakeUp.{WakeUp}
+use Rattle.settling.proofs.Agendas.{rightful_in, agreed_wake, agreed_room, appended, standing}
 use Rattle.settling.proofs.agenda.Agenda.wake.Goals as goal
 
-pub append-requires : goal.append-requires
-append-requires c = record {
-  ready = c.requires.agreed.ready;
-  room = agreed_room c.args.self.now c.args.slots.now c.args.rule c.requires.agreed c.requires.known c.if-self-rule.false;
-  flag = omega (arith, c.requires.known, c.requires.agreed.few, c.requires.agreed.flags);
-}
+pub unwrap-requires : goal.unwrap-requires
+unwrap-requires g c =
+    let w : WakeUp = record { rule = c.args.rule; job = c.args.job } in
+    let right = rightful_in c.self.view_is c.requires in
+    c.push_back.ensures.room.1 (agreed_room c.self.invariant w right c.if-not-self-rule.true)
 
-pub returns : goal.returns
-returns c =
-    let a = c.args.self.now in
-    let b = c.append.new.self in
-    let done = c.append.ensures in
-    record {
-      agreed = agreed_wake a b c.args.slots.now c.append.new.slots (record { rule = c.args.rule; job = c.args.job }) c.requires.agreed c.requires.known c.if-self-rule.false c.append.auto.slots done.ready done.rules done.marked done.line;
-      rules = done.rules;
-      woken = woken_one a b c.args.rule true done.marked (omega (arith, c.requires.known, c.requires.agreed.few, c.requires.agreed.flags));
-      appended = done.line ∙ sym (cond-false _ _ _ c.if-self-rule.false);
-    }
+pub invariant_of-self : goal.invariant_of-self
+invariant_of-self g c =
+    let w : WakeUp = record { rule = c.args.rule; job = c.args.job } in
+    let right = rightful_in c.self.view_is c.requires in
+    agreed_wake c.self.invariant w right c.if-not-self-rule.true _ _ c.push_back.ensures.capacity (search rules)
+
+pub returns-then-not-self-rule-clause-line : goal.returns-then-not-self-rule-clause-line
+returns-then-not-self-rule-clause-line g c =
+    let w : WakeUp = record { rule = c.args.rule; job = c.args.job } in
+    let right = rightful_in c.self.view_is c.requires in
+    rw (← c.self.view_is) (appended c.self.invariant w right c.if-not-self-rule.true _ (search rules))
+
+pub returns-else-not-self-rule-clause-line : goal.returns-else-not-self-rule-clause-line
+returns-else-not-self-rule-clause-line g c =
+    let w : WakeUp = record { rule = c.args.rule; job = c.args.job } in
+    let right = rightful_in c.self.view_is c.requires in
+    rw (← c.self.view_is) (standing c.self.invariant w right c.if-not-self-rule.false)
