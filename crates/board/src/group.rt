@@ -92,7 +92,8 @@ impl<S: Stage + Drop> Board<S> {
         self.numbers.group(course, log, table, memory, total, rule)
     }
 
-    // The same where `table` is the front of the working numbers: those lent are the rest of them, and count as n more.
+    // The same where `table` is the front of the working numbers: those lent are the rest of them, and count as n more. A call apart,
+    // since a table of its own counts for none.
     pub fn group_within<L: PlaceSet + Copy, R: Rule>(
         &self,
         course: Course<L, R>,

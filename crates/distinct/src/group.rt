@@ -20,7 +20,7 @@ pub struct Deficiency {
     pub deficiency: usize,
 }
 
-// How many slots have no number.
+// How many slots have no number: they lie in lent tables, so no number is `NONE`, here and in the marks below.
 pub fn count_none(slots: &[u16]) -> usize
     ensures { result ≡ count_by (λ slot. slot == 65535) slots.now }
 {

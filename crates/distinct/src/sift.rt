@@ -7,7 +7,7 @@ ghost use Rattle.distinct.specs.Scopes.{Sifted};
 ghost use Rattle.distinct.specs.Divisions.{stays_in, Covers};
 
 use matching::NONE;
-use places::PlaceSet;
+use places::{PlaceSet, empty};
 use rules::Progression;
 
 // What was found of a full matching: the jobs' places, the places' holders, the components, and the marks of the jobs that reach a free place.
@@ -26,6 +26,7 @@ impl<'a, 'b> Division<'a, 'b> {
         requires place { (w m : ℕ) × (place < w) × Covers m w self.now }
         ensures { result ≡ stays_in self.now job place }
     {
+        // `NONE` and the mark 1 are read as they lie in the tables: a closure over an `Option` of the holder would owe its bounds again.
         let holder = self.holders[place as usize];
         self.places[job] == place
             || holder == NONE
@@ -64,6 +65,6 @@ pub fn empty_all<L: PlaceSet>(jobs: &Progression, lists: &mut [L])
     ensures { Sifted (jobs_of jobs.now) jobs.now.count (λ k q. false) (family L.has lists.old) (family L.has lists.new) }
 {
     for job in jobs.iter() {
-        lists[job].fix(NONE);
+        empty(&mut lists[job]);
     }
 }

@@ -17,7 +17,7 @@ pub fn check_layout(bytes: &[u8]) -> Result<(), LayoutFault>
     if n == 0 || n > MOST_BLOCKS * BLOCK || n % BLOCK != 0 {
         return Err(LayoutFault::Length);
     }
-    // By number: which letter may stand depends on the block before.
+    // By number: a block is known by it, and which letter may stand depends on the block before.
     for number in 0..n / BLOCK {
         let block = Block {
             sheet: bytes,

@@ -18,6 +18,7 @@ struct Frontier<'a, 'b> {
 }
 
 impl<'a, 'b> Frontier<'a, 'b> {
+    // Parents are numbers of a lent table, so one that is missing is `NONE`, as the place of a job is in `start`.
     fn has_seen(&self, job: u16) -> bool
         requires { job < length self.now.parents.now }
         ensures { result ≡ filled self.now.parents.now job }

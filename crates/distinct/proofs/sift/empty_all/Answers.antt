@@ -5,7 +5,7 @@ use Rattle.rules.specs.Jobs.{jobs_left}
 use Rattle.rules.specs.Progressions.{jobs_of}
 use Rattle.rules.proofs.Progressions.{job_of_turn, jobs_all}
 use Rattle.distinct.specs.Scopes.{Sifted}
-use Rattle.distinct.proofs.Siftings.{sifted_more, fixed_none}
+use Rattle.distinct.proofs.Siftings.{sifted_more, emptied}
 use Rattle.distinct.proofs.Spreads.{count_is, jobs_apart}
 use Rattle.distinct.proofs.sift.empty_all.Goals as goal
 
@@ -33,10 +33,10 @@ loop-job-preserved g c =
     let x = get_or c.loop-job.lists c.in-Some.job c.index-lists-job.result in
     let within : c.in-Some.job < length c.loop-job.lists = omega (arith, at.1, c.requires.scope.below i (omega (arith, at.0, count_is d n c.requires.scope)), c.loop-job.auto.lists) in
     let more : i + 1 ≡ length (c.loop-job.yielded ++ c.in-Some.job ∷ []) = omega (arith, length_push c.loop-job.yielded c.in-Some.job) in
-    subst (λ k. Sifted (jobs_of d) k (λ k q. false) (family has c.args.lists.now) (family has (set c.loop-job.lists c.in-Some.job c.fix.new.self))) more
-    (sifted_more has (jobs_of d) i (λ k q. false) (family has c.args.lists.now) c.loop-job.lists c.in-Some.job c.fix.new.self c.index-lists-job.result
+    subst (λ k. Sifted (jobs_of d) k (λ k q. false) (family has c.args.lists.now) (family has (set c.loop-job.lists c.in-Some.job c.empty.new.list))) more
+    (sifted_more has (jobs_of d) i (λ k q. false) (family has c.args.lists.now) c.loop-job.lists c.in-Some.job c.empty.new.list c.index-lists-job.result
     (λ k l. jobs_apart d n c.requires.scope k i l at.0) at.1 within c.loop-job.invariant
-    (fixed_none (has x) g.L.PlaceSet.LIMIT g.met.L.PlaceSet.bounded.1 (g.met.L.PlaceSet.within x) (has c.fix.new.self) c.fix.ensures.after))
+    (λ q. emptied (has x q) (c.empty.ensures q)))
 
 pub returns : goal.returns
 returns g c =
