@@ -27,12 +27,12 @@ count '3c a number counted by hand in a for' '\b(n|len|i|low|held) (\+= 1|= appe
 count '3d an index into another table' '\]\s*= [*a-z.()]+;' "$code"
 count '4a conversions by hand' 'fn (number_of|told|answer_to|u16_at|u32_at|jobs\(&self\) -> Progression|closed)' "$code"
 count '4b printing' '(print|println|write)!\(' 'crates/placing/src/*.rt'
-count '5a opened lists lent as a parameter' '^\s+opened: &' "$code"
-count '5b wake-ups, working lists or numbers lent as a parameter' '^\s+(wake_ups|working|numbers): &(mut )?\[' "$code"
+count '5a opened lists lent as a parameter' '^\s+(pub )?opened: &' "$code"
+count '5b wake-ups, working lists or numbers lent as a parameter' '^\s+(pub )?(wake_ups|working|numbers): &(.[a-z] )?(mut )?\[' "$code"
 count '5c the setting of a search written out' 'setting \(J.jobs' 'crates/components/src/*.rt'
-count '5d tables of the search for components lent' '(index|labels|nodes|cuts|path|cursors): &(mut )?\[u16\]' 'crates/components/src/*.rt'
-count '5e slots lent beside a queue or an agenda' 'slots: &(mut )?\[' "$code"
-count '5f places and holders lent as a pair' 'holders: &mut \[' "$code"
+count '5d tables of the search for components lent' '(index|labels|nodes|cuts|path|cursors): &(.[a-z] )?(mut )?\[u16\]' 'crates/components/src/*.rt'
+count '5e slots lent beside a queue or an agenda' 'slots: &(.[a-z] )?(mut )?\[' "$code"
+count '5f places and holders lent as a pair' 'holders: &(.[a-z] )?mut \[' "$code"
 count '5g a block lies inside the bytes' '512 \* k \+ 512 ≤' "$code"
 count '5h the row of lengths in a clause' '\(lengths \(' "$code"
 count '6  a length or a height beside a buffer' '^\s*(pub )?(len|top|cuts|depth|head): (usize|u16),' "$code"
