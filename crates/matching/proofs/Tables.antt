@@ -6,7 +6,6 @@ use lib.ListN.{length-replicate, get_or-replicate}
 use Rattle.theory.specs.Assignments.{put, with}
 use Rattle.theory.proofs.Sums.{clash}
 use Rattle.theory.proofs.Moves.{put_same, put_other, with_same, with_other}
-use Rattle.places.specs.declared.set.PlaceSet as kind
 use Rattle.matching.specs.declared.bipartite.Bipartite as lists
 use Rattle.matching.specs.Tables.{at, filled}
 use Rattle.matching.specs.declared.matching.MatchingMut.{MatchingMut}
@@ -56,10 +55,11 @@ pub after : {J : Type 0} {s t u : MatchingMut J} → SameTables s t → SameTabl
 after a b = record { jobs = b.jobs ∙ a.jobs; places = b.places ∙ a.places; holders = b.holders ∙ a.holders; size = b.size ∙ a.size }
 
 -- and hold a matching where their entries make one
-pub matching_stays : {J L : Type 0} {B : lists.Ghosts J L} {P : kind.Ghosts L} {s t : MatchingMut J} → IsMatching B P s → SameTables s t
-    → Matched (B.jobs s.jobs.now) P.LIMIT (B.holds s.jobs.now) t.places.now t.holders.now → IsMatching B P t
-matching_stays {J = J} {B = B} {P = P} {t = t} a e m = record {
+pub matching_stays : {J : Type 0} {B : lists.Ghosts J} {s t : MatchingMut J} → IsMatching B s → SameTables s t
+    → Matched (B.jobs s.jobs.now) (B.width s.jobs.now) (B.holds s.jobs.now) t.places.now t.holders.now → IsMatching B t
+matching_stays {J = J} {B = B} {t = t} a e m = record {
   few = subst (λ (j : J). B.jobs j ≤ 65535) (sym e.jobs) a.few;
+  narrow = subst (λ (j : J). B.width j ≤ 2048) (sym e.jobs) a.narrow;
   sized = e.size ∙ a.sized ∙ sym (ap B.jobs e.jobs);
-  matched = subst (λ (j : J). Matched (B.jobs j) P.LIMIT (B.holds j) t.places.now t.holders.now) (sym e.jobs) m;
+  matched = subst (λ (j : J). Matched (B.jobs j) (B.width j) (B.holds j) t.places.now t.holders.now) (sym e.jobs) m;
 }

@@ -1,6 +1,5 @@
 -- The tables of a matching that is being made.
 use Rattle.std.specs.Prelude.{◌≡◌, ℕ, ◌≤◌, List, length}
-use Rattle.places.specs.declared.set.PlaceSet as kind
 use Rattle.matching.specs.declared.bipartite.Bipartite as lists
 use Rattle.matching.specs.declared.matching.MatchingMut.{MatchingMut}
 use Rattle.matching.specs.Matched.{Matched}
@@ -13,13 +12,14 @@ pub record SameTables {J : Type 0} (old new : MatchingMut J) : Type 0 where
   pub holders : new.holders.ghost_name ≡ old.holders.ghost_name
   pub size : length new.places.now ≡ length old.places.now
 
-module _ {J L : Type 0} (B : lists.Ghosts J L) (P : kind.Ghosts L) (t : MatchingMut J) where
+module _ {J : Type 0} (B : lists.Ghosts J) (t : MatchingMut J) where
   -- the tables hold a matching of the jobs
   pub record IsMatching : Type 0 where
     pub few : B.jobs t.jobs.now ≤ 65535
+    pub narrow : B.width t.jobs.now ≤ 2048
     pub sized : length t.places.now ≡ B.jobs t.jobs.now
-    pub matched : Matched (B.jobs t.jobs.now) P.LIMIT (B.holds t.jobs.now) t.places.now t.holders.now
+    pub matched : Matched (B.jobs t.jobs.now) (B.width t.jobs.now) (B.holds t.jobs.now) t.places.now t.holders.now
 
   -- a search from the jobs without a place has found a job that can take a free place
   abbrev pub HasOpening : List ℕ → ℕ → ℕ → Type 0
-  HasOpening parents job place = Found (B.jobs t.jobs.now) P.LIMIT (B.holds t.jobs.now) t.places.now t.holders.now parents job place
+  HasOpening parents job place = Found (B.jobs t.jobs.now) (B.width t.jobs.now) (B.holds t.jobs.now) t.places.now t.holders.now parents job place

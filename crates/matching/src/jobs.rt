@@ -5,7 +5,6 @@ ghost use Rattle.matching.specs.Matched.{Stalled};
 use crate::bipartite::Bipartite;
 use crate::matching::{Matching, MatchingMut, NONE};
 use crate::search::search;
-use places::PlaceSet;
 
 // A largest matching: the place of each job and the holder of each place. The parents tell which jobs those without a place reach.
 // The four tables come one by one: callers go on with them as other things, and would make a struct of them to take it apart.
@@ -16,12 +15,12 @@ pub fn match_jobs<J: Bipartite>(
     parents: &mut [u16],
     slots: &mut [u16],
 )
-    requires few { J.jobs jobs.now ≤ 65535 }
+    requires few { (J.jobs jobs.now ≤ 65535) × (J.width jobs.now ≤ 2048) }
     requires places { length places.old ≡ J.jobs jobs.now }
-    requires holders { J.List.LIMIT ≤ length holders.old }
+    requires holders { J.width jobs.now ≤ length holders.old }
     requires parents { length parents.old ≡ J.jobs jobs.now }
     requires slots { J.jobs jobs.now ≤ length slots.old }
-    ensures { Stalled (J.jobs jobs.now) J.List.LIMIT (J.holds jobs.now) places.new holders.new parents.new }
+    ensures { Stalled (J.jobs jobs.now) (J.width jobs.now) (J.holds jobs.now) places.new holders.new parents.new }
 {
     places.fill(NONE);
     holders.fill(NONE);

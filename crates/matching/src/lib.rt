@@ -6,6 +6,6 @@ mod jobs;
 mod matching;
 mod search;
 
-pub use bipartite::Bipartite;
+pub use bipartite::{Bipartite, JobPlaces};
 pub use jobs::match_jobs;
 pub use matching::{Matching, NONE, entry};

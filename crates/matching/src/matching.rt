@@ -4,8 +4,7 @@ ghost use Rattle.theory.specs.Counts.{count};
 ghost use Rattle.matching.specs.Tables.{IsEntry, at, filled};
 ghost use Rattle.matching.specs.Matched.{FirstFree, Matched};
 
-use crate::bipartite::Bipartite;
-use places::PlaceSet;
+use crate::bipartite::{Bipartite, JobPlaces};
 
 // Stands for no job and no place: a table is lent as a row of numbers, so an entry is no Option.
 pub const NONE: u16 = 0xffff;
@@ -33,8 +32,9 @@ pub struct Matching<'a, J: Bipartite> {
     pub places: &'a [u16],
     pub holders: &'a [u16],
     ghost few: { J.jobs jobs.now ≤ 65535 },
+    ghost narrow: { J.width jobs.now ≤ 2048 },
     ghost sized: { length places.now ≡ J.jobs jobs.now },
-    ghost matched: { Matched (J.jobs jobs.now) J.List.LIMIT (J.holds jobs.now) places.now holders.now },
+    ghost matched: { Matched (J.jobs jobs.now) (J.width jobs.now) (J.holds jobs.now) places.now holders.now },
 }
 
 impl<'a, J: Bipartite> Matching<'a, J> {
@@ -60,7 +60,7 @@ impl<'a, J: Bipartite> MatchingMut<'a, J> {
 
     // The matching as it stands.
     pub fn shared(&self) -> Matching<'_, J>
-        requires { IsMatching J.Bipartite J.List.PlaceSet self.now }
+        requires { IsMatching J.Bipartite self.now }
         ensures jobs { result.jobs.now ≡ self.now.jobs.now }
         ensures places { result.places.now ≡ self.now.places.now }
         ensures holders { result.holders.now ≡ self.now.holders.now }
@@ -103,21 +103,19 @@ impl<'a, J: Bipartite> MatchingMut<'a, J> {
     // The first place of a job's list that no job has.
     fn first_free(&self, job: usize) -> Option<u16>
         requires job { job < J.jobs self.now.jobs.now }
-        requires holders { J.List.LIMIT ≤ length self.now.holders.now }
-        ensures { FirstFree J.List.LIMIT (J.holds self.now.jobs.now job) self.now.holders.now result }
+        requires narrow { J.width self.now.jobs.now ≤ 2048 }
+        requires holders { J.width self.now.jobs.now ≤ length self.now.holders.now }
+        ensures { FirstFree (J.width self.now.jobs.now) (J.holds self.now.jobs.now job) self.now.holders.now result }
     {
-        self.jobs
-            .list(job)
-            .places()
-            .find(|&place| self.is_free(place))
+        JobPlaces::of(self.jobs, job).find(|&place| self.is_free(place))
     }
 
     // Gives each job in turn the first free place of its list, if there is one. No job has a place before.
     pub fn take_free(&mut self)
-        requires matching { IsMatching J.Bipartite J.List.PlaceSet self.old }
+        requires matching { IsMatching J.Bipartite self.old }
         requires none { (k : ℕ) → k < length self.old.places.now → at self.old.places.now k ≡ 65535 }
         ensures same { SameTables self.old self.new }
-        ensures matching { IsMatching J.Bipartite J.List.PlaceSet self.new }
+        ensures matching { IsMatching J.Bipartite self.new }
     {
         // By number: an iterator over the places would hold the table that `assign` writes.
         for job in 0..self.places.len() {
@@ -130,10 +128,10 @@ impl<'a, J: Bipartite> MatchingMut<'a, J> {
     // Moves jobs along their parents, that of the opening to its place and each next one to the place that the one before
     // it left, until one had none.
     pub fn shift(&mut self, parents: &[u16], opening: Opening)
-        requires matching { IsMatching J.Bipartite J.List.PlaceSet self.old }
-        requires found { HasOpening J.Bipartite J.List.PlaceSet self.old parents.now opening.job opening.place }
+        requires matching { IsMatching J.Bipartite self.old }
+        requires found { HasOpening J.Bipartite self.old parents.now opening.job opening.place }
         ensures same { SameTables self.old self.new }
-        ensures matching { IsMatching J.Bipartite J.List.PlaceSet self.new }
+        ensures matching { IsMatching J.Bipartite self.new }
         ensures more { count (filled self.new.places.now) (J.jobs self.old.jobs.now) ≡ count (filled self.old.places.now) (J.jobs self.old.jobs.now) + 1 }
     {
         let mut job = opening.job;

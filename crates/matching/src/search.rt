@@ -4,9 +4,8 @@ ghost use Rattle.matching.specs.Tables.{at, filled};
 ghost use Rattle.matching.specs.Matching.{HasOpening, IsSearched, IsStalled};
 ghost use Rattle.matching.specs.Searching.{left, Rooted};
 
-use crate::bipartite::Bipartite;
+use crate::bipartite::{Bipartite, JobPlaces};
 use crate::matching::{Matching, NONE, Opening};
-use places::PlaceSet;
 use queue::RingQueue;
 
 // How far a search has come: the job from which each job was first seen, or NONE, and the jobs that are still to be scanned.
@@ -68,7 +67,7 @@ impl<'a, 'b> Frontier<'a, 'b> {
         ensures less { left (J.jobs matching.now.jobs.now) self.new.parents.now self.new.waiting.now.entries ≤ left (J.jobs matching.now.jobs.now) self.old.parents.now self.old.waiting.now.entries }
         ensures state { MatchOption result (IsSearched matching.now self.new.parents.now self.new.waiting.now.entries (J.jobs matching.now.jobs.now) 0) (λ p. HasOpening matching.now self.new.parents.now job p) }
     {
-        for place in matching.jobs.list(job as usize).places() {
+        for place in JobPlaces::of(matching.jobs, job as usize) {
             let Some(holder) = matching.holder_of(place) else {
                 return Some(place);
             };

@@ -7,7 +7,8 @@ pub take_free-requires-clause-matching : goal.take_free-requires-clause-matching
 take_free-requires-clause-matching g c =
     let size = c.fill.ensures.len ∙ c.requires.places in
     record {
-      few = c.requires.few;
+      few = c.requires.few.0;
+      narrow = c.requires.few.1;
       sized = size;
       matched = matched_none _ _ _ _ _ (omega (arith, size)) (omega (arith, c.fill-2.ensures.len, c.requires.holders))
           (filled_with _ _ (c.fill.ensures.after (λ y e. e))) (filled_with _ _ (c.fill-2.ensures.after (λ y e. e)));

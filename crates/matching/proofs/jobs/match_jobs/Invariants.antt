@@ -6,7 +6,7 @@ use Rattle.matching.proofs.jobs.match_jobs.Given as goal
 
 abbrev pub invariant-loop-opening : goal.invariant-loop-opening
 invariant-loop-opening g l = record {
-  matching : IsMatching g.J.Bipartite g.J.List.PlaceSet l.matching;
+  matching : IsMatching g.J.Bipartite l.matching;
   jobs : l.matching.jobs.now ≡ l.jobs;
   same : SameTables l.initial.matching l.matching;
 }

@@ -25,7 +25,7 @@ loop-left-smaller g c =
     let (e, ne) = c.in-Some.ensures in
     let placed : filled c.args.self.now.places.now c.loop-left.job ≡ true =
     sym (ap (λ (A : ℕ → Bool). A c.loop-left.job) inv.moves.same) ∙ some_filled c.loop-left.self.places.now c.loop-left.job (λ z. ne (sym e ∙ z)) in
-    climb_falls (single (j.jobs jobs) g.J.List.PlaceSet.LIMIT (j.holds jobs)) (filled c.args.self.now.places.now) (at c.args.self.now.places.now) (filled c.args.parents.now) (at c.args.parents.now)
+    climb_falls (single (j.jobs jobs) (j.width jobs) (j.holds jobs)) (filled c.args.self.now.places.now) (at c.args.self.now.places.now) (filled c.args.parents.now) (at c.args.parents.now)
     inv.rank inv.forest (length c.args.parents.now) c.loop-left.job c.requires.found.parents_fit moving.job moving.found placed
 
 pub loop-left-preserved : goal.loop-left-preserved
@@ -33,7 +33,7 @@ loop-left-preserved g c =
     let inv = c.loop-left.invariant in
     let f = c.assign.ensures in
     let (e, ne) = c.in-Some.ensures in
-    let narrow : g.J.List.PlaceSet.LIMIT ≤ 65535 = omega (arith, g.met.J.List.PlaceSet.bounded.1) in
+    let narrow : g.J.Bipartite.width c.args.self.now.jobs.now ≤ 65535 = omega (arith, c.requires.matching.narrow) in
     record {
       rank = inv.rank;
       forest = inv.forest;
@@ -45,11 +45,11 @@ pub returns-clause-matching : goal.returns-clause-matching
 returns-clause-matching g c =
     let inv = c.loop-left.invariant in
     let f = c.assign-2.ensures in
-    let narrow : g.J.List.PlaceSet.LIMIT ≤ 65535 = omega (arith, g.met.J.List.PlaceSet.bounded.1) in
+    let narrow : g.J.Bipartite.width c.args.self.now.jobs.now ≤ 65535 = omega (arith, c.requires.matching.narrow) in
     matching_stays c.requires.matching (after inv.same f.same) (rw (f.places, f.holders) (shifting_ends _ _ _ _ _ _ _ _ _ _ narrow inv.moves c.in_default.ensures).0)
 
 pub returns-clause-more : goal.returns-clause-more
 returns-clause-more g c =
     let inv = c.loop-left.invariant in
-    let narrow : g.J.List.PlaceSet.LIMIT ≤ 65535 = omega (arith, g.met.J.List.PlaceSet.bounded.1) in
+    let narrow : g.J.Bipartite.width c.args.self.now.jobs.now ≤ 65535 = omega (arith, c.requires.matching.narrow) in
     rw c.assign-2.ensures.places (shifting_ends _ _ _ _ _ _ _ _ _ _ narrow inv.moves c.in_default.ensures).1

@@ -13,8 +13,8 @@ invariant-loop-left g l =
     let before = l.initial.self.places.now in
     record {
       rank : ℕ → ℕ;
-      forest : Forest (single (j.jobs jobs) g.J.List.PlaceSet.LIMIT (j.holds jobs)) (filled before) (at before) (filled l.parents) (at l.parents) rank;
-      moves : Shifting (j.jobs jobs) g.J.List.PlaceSet.LIMIT (j.holds jobs) rank before l.parents l.self.places.now l.self.holders.now l.job l.free;
+      forest : Forest (single (j.jobs jobs) (j.width jobs) (j.holds jobs)) (filled before) (at before) (filled l.parents) (at l.parents) rank;
+      moves : Shifting (j.jobs jobs) (j.width jobs) (j.holds jobs) rank before l.parents l.self.places.now l.self.holders.now l.job l.free;
       same : SameTables l.initial.self l.self;
     }
 

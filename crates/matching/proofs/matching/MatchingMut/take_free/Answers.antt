@@ -13,7 +13,7 @@ loop-job-preserved g c =
       | in-Some w ↦
           let e = w.assign.ensures in
           let (below, listed, free, first) = w.in-Some.ensures in
-          let narrow : g.J.List.PlaceSet.LIMIT ≤ 65535 = omega (arith, g.met.J.List.PlaceSet.bounded.1) in
+          let narrow : g.J.Bipartite.width c.loop-job.self.jobs.now ≤ 65535 = omega (arith, m.narrow) in
           rw w.self-is (record {
             matching = matching_stays m e.same (rw (e.places, e.holders) (matched_gives _ _ _ _ _ job w.in-Some.place m.few narrow m.matched
                 (omega (arith, m.sized, inv.same.size)) (inv.bare job (omega arith) (omega (arith, inv.same.size))) below listed free));

@@ -9,7 +9,8 @@ invariant-loop-place g l =
     let j = g.J.Bipartite in
     let jobs = l.matching.jobs.now in
     record {
-      list_is : g.J.List.PlaceSet.has l.place-iterator.list.now ≡ j.holds jobs l.job;
+      jobs_are : l.place-iterator.jobs.now ≡ jobs;
+      job_is : l.place-iterator.job ≡ l.job;
       state : IsSearched l.matching l.self.parents.now l.self.waiting.now.entries l.job l.place-iterator.from;
       seen : filled l.self.parents.now l.job ≡ true;
       less : left (j.jobs jobs) l.self.parents.now l.self.waiting.now.entries ≤ left (j.jobs jobs) l.initial.self.parents.now l.initial.self.waiting.now.entries;
