@@ -10,19 +10,18 @@ ghost use Rattle.components.specs.States.{Keeps, GoesOn, IsWalked, IsLast, IsSpe
 
 use crate::graph::Graph;
 use crate::stack::Stack;
-use matching::{Bipartite, Matching, NONE};
-use places::PlaceSet;
+use matching::{Bipartite, JobPlaces, Matching, NONE};
 
 // The search.
 #[derive(Drop)]
-pub struct Walk<'g, 'm, 'a, J: Bipartite> {
+pub struct Walk<'g, 'm, 'i, 'l, 'a, J: Bipartite> {
     graph: Graph<'g, 'm, J>,
     // How far the list of each job was followed.
     cursors: &'a mut [u16],
     // The position of each job on the stack or, once it is done, 1 where it is loose.
-    index: &'a mut [u16],
+    index: &'i mut [u16],
     // The number of the component of each job that is done.
-    labels: &'a mut [u16],
+    labels: &'l mut [u16],
     // The jobs that were seen and are not done.
     nodes: Stack<'a>,
     // The positions where the segments of the stack begin.
@@ -53,7 +52,7 @@ fn mark(nodes: &Stack, from: u16, index: &mut [u16], is_loose: bool)
     label(nodes, from, index, u16::from(is_loose));
 }
 
-impl<'g, 'm, 'a, J: Bipartite> Walk<'g, 'm, 'a, J> {
+impl<'g, 'm, 'i, 'l, 'a, J: Bipartite> Walk<'g, 'm, 'i, 'l, 'a, J> {
     // Whether the search has come to a job. The tables are lent, so NONE stands for no number.
     fn is_seen(&self, job: u16) -> bool
         requires { job < length self.now.index.now }
@@ -118,12 +117,7 @@ impl<'g, 'm, 'a, J: Bipartite> Walk<'g, 'm, 'a, J> {
         requires marks { HasMarks self.now }
         ensures { IsTrue result ↔ HasOutlet (over self.now) self.now.index.now self.now.labels.now job }
     {
-        self.graph
-            .full
-            .jobs
-            .list(job as usize)
-            .places()
-            .any(|place| self.is_outlet(place))
+        JobPlaces::of(self.graph.full.jobs, job as usize).any(|place| self.is_outlet(place))
     }
 
     // Whether that of a job on the stack from position `from` on has one.
@@ -185,7 +179,7 @@ impl<'g, 'm, 'a, J: Bipartite> Walk<'g, 'm, 'a, J> {
     {
         let job = self.nodes.at(last) as usize;
         let cursor = self.cursors[job];
-        let Some(place) = self.graph.full.jobs.list(job).next_from(cursor) else {
+        let Some(place) = self.graph.full.jobs.next_from(job, cursor) else {
             self.leave(last);
             return;
         };
@@ -229,23 +223,23 @@ impl<'g, 'm, 'a, J: Bipartite> Walk<'g, 'm, 'a, J> {
 
 // Memory that a search works in: each table has room for a number a job.
 #[derive(Drop)]
-pub struct Scratch<'a> {
+pub struct Scratch<'a, 'b, 'c, 'd> {
     pub cursors: &'a mut [u16],
-    pub nodes: &'a mut [u16],
-    pub cuts: &'a mut [u16],
-    pub path: &'a mut [u16],
+    pub nodes: &'b mut [u16],
+    pub cuts: &'c mut [u16],
+    pub path: &'d mut [u16],
 }
 
 // Numbers the jobs of a full matching by component in `labels`, and marks by 1 in `index` those that reach a free place.
-pub fn components<'a, J: Bipartite>(
+pub fn components<J: Bipartite>(
     full: &Matching<J>,
-    index: &'a mut [u16],
-    labels: &'a mut [u16],
-    scratch: Scratch<'a>,
+    index: &mut [u16],
+    labels: &mut [u16],
+    scratch: Scratch,
 )
     requires every { (i : ℕ) → i < J.jobs full.now.jobs.now → filled full.now.places.now i ≡ true }
     requires tables { Fit (J.jobs full.now.jobs.now) (tables scratch.cursors.now index.old labels.old scratch.nodes.now scratch.cuts.now scratch.path.now) }
-    ensures { Searched (single (J.jobs full.now.jobs.now) J.List.LIMIT (J.holds full.now.jobs.now)) (at full.now.places.now) (loose index.new) (at labels.new) }
+    ensures { Searched (single (J.jobs full.now.jobs.now) (J.width full.now.jobs.now) (J.holds full.now.jobs.now)) (at full.now.places.now) (loose index.new) (at labels.new) }
 {
     let Scratch {
         cursors,

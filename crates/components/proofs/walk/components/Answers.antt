@@ -15,7 +15,7 @@ pub explore_all-requires-clause-state : goal.explore_all-requires-clause-state
 explore_all-requires-clause-state g c =
     let j = g.J.Bipartite in
     let m = c.args.full.now in
-    let o = setting (j.jobs m.jobs.now) g.J.List.PlaceSet.LIMIT (j.holds m.jobs.now) m.places.now m.holders.now in
+    let o = setting (j.jobs m.jobs.now) (j.width m.jobs.now) (j.holds m.jobs.now) m.places.now m.holders.now in
     let cursors = c.fill.new.self in
     let index = c.fill-2.new.self in
     let labels = c.fill-3.new.self in
@@ -39,9 +39,9 @@ returns g c =
     let j = g.J.Bipartite in
     let m = c.args.full.now in
     let v = c.explore_all.new.self in
-    let o = setting (j.jobs m.jobs.now) g.J.List.PlaceSet.LIMIT (j.holds m.jobs.now) m.places.now m.holders.now in
+    let o = setting (j.jobs m.jobs.now) (j.width m.jobs.now) (j.holds m.jobs.now) m.places.now m.holders.now in
     let e = c.explore_all.ensures in
     let k : Walked o (tables_of v) (empty_at v.next) =
     subst (λ (x : Setting). Walked x (tables_of v) (empty_at v.next)) (over_same _ v e.state.keeps) (empties (over v) (tables_of v) (heights_of v) e.state.walked e.idle) in
-    subst₂ (λ (i l : List ℕ). Searched (single (j.jobs m.jobs.now) g.J.List.PlaceSet.LIMIT (j.holds m.jobs.now)) (at m.places.now) (loose i) (at l)) {x = v.index.now} {u = v.labels.now} (search rules) (search rules)
-    (searched o (record { few = m.few; narrow = g.met.J.List.PlaceSet.bounded.1; matched = m.matched; every = c.requires.every }) (tables_of v) v.next k e.all)
+    subst₂ (λ (i l : List ℕ). Searched (single (j.jobs m.jobs.now) (j.width m.jobs.now) (j.holds m.jobs.now)) (at m.places.now) (loose i) (at l)) {x = v.index.now} {u = v.labels.now} (search rules) (search rules)
+    (searched o (record { few = m.few; narrow = m.narrow; matched = m.matched; every = c.requires.every }) (tables_of v) v.next k e.all)
