@@ -29,13 +29,13 @@ impl<'a, L> Scoped<'a, L> {
 }
 
 impl<'a, L: PlaceSet> Bipartite for Scoped<'a, L> {
-    type List = L;
-
     ghost jobs = { λ s. s.jobs.count };
+
+    ghost width = { λ _. L.LIMIT };
 
     ghost holds = { λ s. scoped (jobs_of s.jobs) (family L.has s.lists.now) };
 
-    fn list(&self, job: usize) -> &L {
-        &self.lists[self.index(job)]
+    fn next_from(&self, job: usize, place: u16) -> Option<u16> {
+        self.lists[self.index(job)].next_from(place)
     }
 }
