@@ -3,6 +3,7 @@
 
 #[cfg(test)]
 mod distinct_tests;
+pub mod searches;
 #[cfg(test)]
 mod settling_tests;
 
