@@ -157,7 +157,7 @@ module _ (g : Setting) (f : FullMatching g) (t : Tables) (s : Heights) (k : Walk
         (λ x y o. elim (only x y o) [ inl i ↦ inl i | inr (q, z) ↦ inr (q ∙ sym nx, z) ]) (omega (arith, last_on g t s k d))
         (inr (s.top, omega arith, get_or-set_same t.nodes s.top b 0 lt, λ z u v. absurd (omega (arith, last_on g t s k d))))
 
-    walked_step : (t' : Tables) (s' : Heights) → Followed past s b t' s' → Walked g t' s'
+    pub walked_step : (t' : Tables) (s' : Heights) → Followed past s b t' s' → Walked g t' s'
     walked_step t' s' w = elim (cases (filled t.index b)) [
       | inr e ↦ let o = w.fresh e in retabled g o.tables o.heights (to_new e)
       | inl e ↦ elim (cases (filled t.labels b)) [
@@ -167,7 +167,7 @@ module _ (g : Setting) (f : FullMatching g) (t : Tables) (s : Heights) (k : Walk
     ]
 
     -- what was seen stays so
-    seen_stays : (t' : Tables) (s' : Heights) → Followed past s b t' s' → (x : ℕ) → filled t.index x ≡ true → filled t'.index x ≡ true
+    pub seen_stays : (t' : Tables) (s' : Heights) → Followed past s b t' s' → (x : ℕ) → filled t.index x ≡ true → filled t'.index x ≡ true
     seen_stays t' s' w x h = elim (cases (filled t.index b)) [
       | inr e ↦
           ap (λ (v : Tables). filled v.index x) (w.fresh e).tables
@@ -178,7 +178,7 @@ module _ (g : Setting) (f : FullMatching g) (t : Tables) (s : Heights) (k : Walk
     cursors_stay : (t' : Tables) (s' : Heights) → Followed past s b t' s' → t'.cursors ≡ passing
     cursors_stay t' s' w = elim (cases (filled t.index b)) [ inr e ↦ ap (λ (v : Tables). v.cursors) (w.fresh e).tables | inl e ↦ ap (λ (v : Tables). v.cursors) (w.same e) ]
 
-    depth_stays : (t' : Tables) (s' : Heights) → Followed past s b t' s' → s'.depth ≤ s.depth + 1
+    pub depth_stays : (t' : Tables) (s' : Heights) → Followed past s b t' s' → s'.depth ≤ s.depth + 1
     depth_stays t' s' w = elim (cases (filled t.index b)) [
       | inr e ↦ omega (arith, ap (λ (h : Heights). h.depth) (w.fresh e).heights)
       | inl e ↦ elim (cases (filled t.labels b)) [

@@ -39,7 +39,7 @@ times_push i [] w = omega arith
 times_push i (v ∷ ws) w = omega (arith, times_push i ws w)
 
 -- a mark set or taken away
-mark_set : (marks : List Bool) (r : ℕ) (b : Bool) → r < length marks → (i : ℕ) → get_or (set marks r b) i false ≡ (if i == r then b else get_or marks i false)
+pub mark_set : (marks : List Bool) (r : ℕ) (b : Bool) → r < length marks → (i : ℕ) → get_or (set marks r b) i false ≡ (if i == r then b else get_or marks i false)
 mark_set marks r b l i =
     ⊎_elim
     (λ (e : i ≡ r). subst (λ k. get_or (set marks r b) k false ≡ (if k == r then b else get_or marks k false)) (sym e) (get_or-set_same marks r b false l ∙ sym (cond-true (r == r) b _ (eq-eqb r r refl))))
