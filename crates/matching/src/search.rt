@@ -6,14 +6,14 @@ ghost use Rattle.matching.specs.Searching.{left, Rooted};
 
 use crate::bipartite::{Bipartite, JobPlaces};
 use crate::matching::{Matching, NONE, Opening};
-use queue::RingQueue;
+use queue::WaitingLine;
 
 // How far a search has come: the job from which each job was first seen, or NONE, and the jobs that are still to be scanned.
 #[derive(Drop)]
 struct Frontier<'a, 'b> {
     parents: &'a mut [u16],
     // Lent too: a struct that owned it would leave the proof of `search` without what the parents are in the end.
-    waiting: &'a mut RingQueue<'b, u16>,
+    waiting: &'a mut WaitingLine<'b, u16>,
 }
 
 impl<'a, 'b> Frontier<'a, 'b> {
@@ -89,7 +89,7 @@ pub fn search<J: Bipartite>(
     requires slots { J.jobs matching.now.jobs.now ≤ length slots.old }
     ensures { MatchOption result (IsStalled matching.now parents.new) (λ o. HasOpening matching.now parents.new o.job o.place) }
 {
-    let mut waiting = RingQueue::new(slots);
+    let mut waiting = WaitingLine::new(slots);
     let mut frontier = Frontier {
         parents,
         waiting: &mut waiting,

@@ -1,8 +1,9 @@
 -- One entry more, and one less, of a ring.
 use Rattle.std.proofs.Common.{◌≡◌, ℕ, zero, suc, ◌+◌, ◌-◌, ◌<◌, ◌≤◌, ◌⊎◌, List, [], ◌∷◌, ◌++◌, length, slice_index_or, take, drop, slice_set, sym, ap, ◌∙◌, subst, ⊎_elim, not-suc-le-zero, arith, length-append, length-drop, length-take}
 use lib.Seq.{take-set-lt}
-use Rattle.std.proofs.lemmas.List.{take_more_set, drop-set-add, take-set-le, drop-set-lt, set-append_left, set-append_right, take-append-le, take-take, drop_all, drop_more, take_more, append_assoc, append-nil}
-use Rattle.queue.specs.Ring.{ring, contents}
+use Rattle.std.proofs.lemmas.List.{take_more_set, drop-set-add, take-set-le, drop-set-lt, set-append_left, set-append_right, take-append-le, take-take, drop_all, drop_more, take_more, append_assoc, append-nil, length-take-le}
+use Rattle.queue.specs.declared.ring.RingQueue.{RingQueue}
+use Rattle.queue.specs.Ring.{ring, contents, entries, Ready}
 
 -- where the next entry goes: behind the last, or round the end of the slice
 abbrev pub Behind : ℕ → ℕ → ℕ → ℕ → Type 0
@@ -76,3 +77,7 @@ module _ {T : Type 0} where
   pub pop : (h n next : ℕ) (xs : List T) (d : T) → 0 < n → n ≤ length xs → h < length xs → After (length xs) h next → contents h n xs ≡ slice_index_or xs h d ∷ contents next (n - 1) xs
   pop h zero next xs d z m l a = absurd (not-suc-le-zero z)
   pop h (suc n) next xs d z m l a = let back : suc n - 1 ≡ n = omega arith in pop_suc h n next xs d m l a ∙ ap (λ k. slice_index_or xs h d ∷ contents next k xs) (sym back)
+
+  -- a queue holds as many entries as it says
+  pub length_entries : (q : RingQueue) (xs : List T) → Ready q (length xs) → length (entries q xs) ≡ q.len
+  length_entries q xs r = length-take-le q.len (ring q.head xs) (rw (length_ring q.head xs r.head_within) r.len_within)

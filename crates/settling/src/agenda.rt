@@ -2,7 +2,7 @@
 ghost use Rattle.std.specs.Prelude.{◌≡◌, ◌≤◌, [], length, IfSome};
 ghost use Rattle.settling.specs.Agenda.{Rightful, joined, Taken};
 
-use queue::RingQueue;
+use queue::WaitingLine;
 use rules::Rule;
 use std::marker::Model;
 
@@ -17,7 +17,7 @@ pub struct WakeUp {
 #[derive(Drop)]
 pub struct Agenda<'a, R: Rule> {
     rules: &'a [R],
-    queue: RingQueue<'a, WakeUp>,
+    queue: WaitingLine<'a, WakeUp>,
     // A mark for each rule that there can be, so that none is searched for in the line.
     waiting: [bool; 64],
 }
@@ -42,7 +42,7 @@ impl<'a, R: Rule> Agenda<'a, R> {
     {
         Agenda {
             rules,
-            queue: RingQueue::new(slots),
+            queue: WaitingLine::new(slots),
             waiting: [false; 64],
         }
     }
