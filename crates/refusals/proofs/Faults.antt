@@ -27,7 +27,7 @@ fault_push bad n i (y ∷ xs) x =
     [ true ↦ refl | false ↦ more ]
 
 -- where no element is at fault, all pass
-all_pass : {X : Type 0} (good : X → Bool) (n i : ℕ) (xs : List X) → None ≡ first_fault (λ x. not (good x)) n i xs → AllByRecursion (λ x. good x ≡ true) xs
+pub all_pass : {X : Type 0} (good : X → Bool) (n i : ℕ) (xs : List X) → None ≡ first_fault (λ x. not (good x)) n i xs → AllByRecursion (λ x. good x ≡ true) xs
 all_pass good n i [] e = tt
 all_pass good n i (x ∷ xs) e =
     (elim (good x) as (λ b. None ≡ (if not b then Some (code n i) else first_fault (λ y. not (good y)) n (i + 1) xs) → (b ≡ true) × AllByRecursion (λ y. good y ≡ true) xs)
