@@ -1,6 +1,7 @@
 // A whole day: a board is opened, rules are offered, it is closed, and calls are made on it.
 ghost use Rattle.std.specs.Prelude.{◌≡◌, length, IfOk, MatchResult};
 ghost use Rattle.board.specs.Book.{close_refusal, open_refusal};
+ghost use Rattle.board.specs.Lent.{KeepsLengths};
 ghost use Rattle.board.specs.Outcomes.{lengths};
 ghost use Rattle.history.specs.Calls.{kinds};
 ghost use Rattle.history.specs.Days.{day_stop, stopped, DayBoard, OffersLeft};
@@ -42,6 +43,7 @@ pub fn run_day<L: PlaceSet + Copy, R: Rule + Copy>(
     ensures offers { OffersLeft R.lawful n w offers.old offers.new rules.old rules.new result }
     ensures board { IfOk result (λ b. DayBoard n w (accepted_of offers.new) b.numbers) }
     ensures run { MatchResult result (λ b. Run (kinds L.has L.LIMIT R.scope R.admits R.lawful R.names) (setting n w opened.now (accepted_of offers.new) (lengths (length opened.now) (length rules.old) (length log.old) (length standing.old) (length group.old) (length memory.old.working.now) (length memory.old.numbers.now) (length memory.old.wake_ups.now))) events.old events.new b.numbers.cuts log.old log.new b.stage standing.old standing.new group.old group.new) (λ _. (log.new ≡ log.old) × (standing.new ≡ standing.old) × (group.new ≡ group.old) × (events.new ≡ events.old)) }
+    ensures memory { KeepsLengths memory.old memory.new }
 {
     let mut board = Board::<Filling>::open(n, w, opened).map_err(DayRefusal::Opening)?;
     make_offers(&mut board, rules, offers);

@@ -49,6 +49,7 @@ pub fn carry_out<L: PlaceSet + Copy, R: Rule>(
     requires held { board.numbers.rules ≤ length course.rules.now }
     ensures same { Same board.numbers board.numbers.rules result.numbers.cuts result.numbers }
     ensures run { Run (kinds L.has L.LIMIT R.scope R.admits R.lawful R.names) (setting board.numbers.n board.numbers.w course.entry.opened.now (take board.numbers.rules course.entry.rules.now) (lent course.entry log.old (length standing.old) (length group.old) memory.old)) events.old events.new result.numbers.cuts log.old log.new result.stage standing.old standing.new group.old group.new }
+    ensures memory { KeepsLengths memory.old memory.new }
 {
     let mut board = board.closed();
     for event in events.iter_mut() {
