@@ -1,4 +1,4 @@
-// Examples at the edges of the list kinds, of narrowing by one rule, and of settling.
+// Examples at the edges of the list kinds, of narrowing by one rule, of settling, and of matchings, searches and queues.
 #![tactic(auto)]
 
 #[cfg(test)]

@@ -1,4 +1,4 @@
-// Matchings of jobs whose places are worked out and not stored, and searches whose tables are lent apart.
+// Matchings of jobs whose places are worked out and not stored, searches whose tables are lent apart, and queues that are copied.
 ghost use Rattle.std.specs.Prelude.{◌≡◌, ℕ, ◌<◌, true, nat_eq};
 ghost use Rattle.matching.specs.Tables.{filled};
 ghost use Rattle.components.specs.Walks.{tables, Fit};
@@ -20,6 +20,7 @@ impl Bipartite for Diagonal {
     ghost holds = { λ _. nat_eq };
 
     fn next_from(&self, job: usize, place: u16) -> Option<u16> {
+        // The number of jobs is read, so that the proof knows that a job's has 16 bits.
         if usize::from(place) > job || job >= usize::from(self.jobs) {
             return None;
         }
@@ -27,7 +28,7 @@ impl Bipartite for Diagonal {
     }
 }
 
-// Searches twice in the same tables.
+// Lends its own tables to two searches, one after the other: each table is lent for a time of its own, and keeps its length.
 pub fn search_twice<J: Bipartite>(
     full: &Matching<J>,
     cursors: &mut [u16],
@@ -59,6 +60,7 @@ pub fn search_twice<J: Bipartite>(
 mod tests {
     use super::*;
     use matching::match_jobs;
+    use queue::RingQueue;
     use std::test::Fail;
 
     // Three holders are enough for places below three.
@@ -77,6 +79,22 @@ mod tests {
         );
         assert_eq!(rt; places, [0, 1, 2]);
         assert_eq!(rt; holders, [0, 1, 2]);
+        Ok(())
+    }
+
+    // Both go on in the same slots, which are read between their calls.
+    #[test]
+    fn a_queue_is_copied(rt: HostRuntime) -> Result<(), Fail> {
+        let mut slots = [0_u16; 2];
+        let mut queue = RingQueue::new();
+        assert!(rt; queue.push_back(&mut slots, 7).is_ok());
+        assert!(rt; queue.push_back(&mut slots, 8).is_ok());
+        assert!(rt; queue.push_back(&mut slots, 9).is_err());
+        let mut copy = queue;
+        assert_eq!(rt; queue.pop_front(&slots), Some(7));
+        assert_eq!(rt; slots, [7, 8]);
+        assert_eq!(rt; copy.pop_front(&slots), Some(7));
+        assert_eq!(rt; copy.len(), 1);
         Ok(())
     }
 }
