@@ -12,7 +12,7 @@ use crate::graph::Graph;
 use crate::stack::Stack;
 use matching::{Bipartite, JobPlaces, Matching, NONE};
 
-// The search. Marks and labels are lent for times of their own: clauses say what they hold in the end, and the rest is scratch.
+// The search.
 #[derive(Drop)]
 pub struct Walk<'g, 'm, 'i, 'l, 'a, J: Bipartite> {
     graph: Graph<'g, 'm, J>,

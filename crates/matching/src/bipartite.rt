@@ -21,7 +21,7 @@ pub trait Bipartite {
         ensures within { IfSome result (λ p. p < width self.now) };
 }
 
-// The places that a job can take from `from` on, rising. They are below 2,048, so that the number behind each is one of 16 bits.
+// The places that a job can take from `from` on, rising.
 #[derive(Drop)]
 pub struct JobPlaces<'a, J: Bipartite> {
     jobs: &'a J,

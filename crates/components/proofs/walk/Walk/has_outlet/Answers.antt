@@ -1,4 +1,4 @@
-use Rattle.std.proofs.Common.{◌≡◌, ◌<◌, true, subst, rules}
+use Rattle.std.proofs.Common.{◌≡◌, ◌<◌, true, length, subst, arith, rules}
 use borrow.Author.Tests.{tests}
 use Rattle.matching.proofs.Finds.{any_decides, serves}
 use Rattle.components.specs.Steps.{outlet}
