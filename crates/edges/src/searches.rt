@@ -1,7 +1,9 @@
 // Matchings of jobs whose places are worked out and not stored, searches whose tables are lent apart, and queues that are copied.
 ghost use Rattle.std.specs.Prelude.{◌≡◌, ℕ, ◌<◌, true, nat_eq};
-ghost use Rattle.matching.specs.Tables.{filled};
-ghost use Rattle.components.specs.Walks.{tables, Fit};
+ghost use Rattle.theory.specs.Assignments.{Searched};
+ghost use Rattle.theory.specs.SingleRows.{single};
+ghost use Rattle.matching.specs.Tables.{at, filled};
+ghost use Rattle.components.specs.Walks.{tables, Fit, loose};
 
 use components::{Scratch, components};
 use matching::{Bipartite, Matching};
@@ -40,20 +42,22 @@ pub fn search_twice<J: Bipartite>(
 )
     requires every { (i : ℕ) → i < J.jobs full.now.jobs.now → filled full.now.places.now i ≡ true }
     requires tables { Fit (J.jobs full.now.jobs.now) (tables cursors.old index.old labels.old nodes.old cuts.old path.old) }
+    ensures { Searched (single (J.jobs full.now.jobs.now) (J.width full.now.jobs.now) (J.holds full.now.jobs.now)) (at full.now.places.now) (loose index.new) (at labels.new) }
 {
-    for _ in 0..2 {
-        components(
-            full,
-            index,
-            labels,
-            Scratch {
-                cursors,
-                nodes,
-                cuts,
-                path,
-            },
-        );
-    }
+    let first = Scratch {
+        cursors,
+        nodes,
+        cuts,
+        path,
+    };
+    components(full, index, labels, first);
+    let second = Scratch {
+        cursors,
+        nodes,
+        cuts,
+        path,
+    };
+    components(full, index, labels, second);
 }
 
 #[cfg(test)]
