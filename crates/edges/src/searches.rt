@@ -1,12 +1,13 @@
-// Matchings of jobs whose places are worked out and not stored, searches whose tables are lent apart, and queues that are copied.
-ghost use Rattle.std.specs.Prelude.{◌≡◌, ℕ, ◌<◌, true, nat_eq};
+// Matchings of jobs whose places are worked out or stand in two lists, searches whose tables are lent apart, and queues that are copied.
+ghost use Rattle.std.specs.Prelude.{◌≡◌, ℕ, ◌<◌, true, if◌then◌else◌, nat_eq};
 ghost use Rattle.theory.specs.Assignments.{Searched};
 ghost use Rattle.theory.specs.SingleRows.{single};
 ghost use Rattle.matching.specs.Tables.{at, filled};
 ghost use Rattle.components.specs.Walks.{tables, Fit, loose};
 
 use components::{Scratch, components};
-use matching::{Bipartite, Matching};
+use matching::{Bipartite, Listed, Matching};
+use places::PlaceSet;
 
 // Jobs each of which can take the place of its own number alone.
 #[derive(Drop)]
@@ -27,6 +28,25 @@ impl Bipartite for Diagonal {
             return None;
         }
         Some(job as u16)
+    }
+}
+
+// Two jobs with a list each.
+#[derive(Drop)]
+pub struct Pair<L> {
+    pub first: L,
+    pub second: L,
+}
+
+impl<L: PlaceSet> Listed for Pair<L> {
+    type List = L;
+
+    ghost jobs = { λ _. 2 };
+
+    ghost holds = { λ p job. if nat_eq job 0 then L.has p.first else L.has p.second };
+
+    fn list(&self, job: usize) -> &L {
+        if job == 0 { &self.first } else { &self.second }
     }
 }
 
@@ -63,7 +83,8 @@ pub fn search_twice<J: Bipartite>(
 #[cfg(test)]
 mod tests {
     use super::*;
-    use matching::match_jobs;
+    use matching::{ByLists, match_jobs};
+    use places::CarrierRow;
     use queue::RingQueue;
     use std::test::Fail;
 
@@ -83,6 +104,31 @@ mod tests {
         );
         assert_eq!(rt; places, [0, 1, 2]);
         assert_eq!(rt; holders, [0, 1, 2]);
+        Ok(())
+    }
+
+    // The second job has place 0 alone, so the first moves to place 1.
+    #[test]
+    fn lists_are_matched(rt: HostRuntime) -> Result<(), Fail> {
+        let jobs = Pair {
+            first: CarrierRow(0b11),
+            second: CarrierRow(0b01),
+        };
+        let mut places = [9; 2];
+        let mut holders = [9; 64];
+        let mut parents = [9; 2];
+        let mut slots = [9; 2];
+        match_jobs(
+            &ByLists { jobs: &jobs },
+            &mut places,
+            &mut holders,
+            &mut parents,
+            &mut slots,
+        );
+        assert_eq!(rt; places, [1, 0]);
+        assert_eq!(rt; holders[1], 0);
+        assert_eq!(rt; jobs.list(0).count(), 2);
+        assert_eq!(rt; jobs.list(1).next_from(0), Some(0));
         Ok(())
     }
 
