@@ -1,12 +1,13 @@
 // Matchings of jobs whose places are worked out or stand in two lists, searches whose tables are lent apart, and queues that are copied.
-ghost use Rattle.std.specs.Prelude.{◌≡◌, ℕ, ◌<◌, true, if◌then◌else◌, nat_eq};
+ghost use Rattle.std.specs.Prelude.{◌≡◌, ℕ, ◌<◌, ◌≤◌, true, if◌then◌else◌, length, nat_eq};
 ghost use Rattle.theory.specs.Assignments.{Searched};
 ghost use Rattle.theory.specs.SingleRows.{single};
+ghost use Rattle.matching.specs.Matched.{Matched, Stalled};
 ghost use Rattle.matching.specs.Tables.{at, filled};
 ghost use Rattle.components.specs.Walks.{tables, Fit, loose};
 
 use components::{Scratch, components};
-use matching::{Bipartite, Listed, Matching};
+use matching::{Bipartite, ByLists, Listed, Matching, match_jobs};
 use places::PlaceSet;
 
 // Jobs each of which can take the place of its own number alone.
@@ -50,6 +51,48 @@ impl<L: PlaceSet> Listed for Pair<L> {
     }
 }
 
+// A largest matching of jobs that lend their lists. Places are below the list kind's limit, which is at most 2,048.
+pub fn match_lists<J: Listed>(
+    jobs: &J,
+    places: &mut [u16],
+    holders: &mut [u16],
+    parents: &mut [u16],
+    slots: &mut [u16],
+)
+    requires few { J.jobs jobs.now ≤ 65535 }
+    requires places { length places.old ≡ J.jobs jobs.now }
+    requires holders { J.List.LIMIT ≤ length holders.old }
+    requires parents { length parents.old ≡ J.jobs jobs.now }
+    requires slots { J.jobs jobs.now ≤ length slots.old }
+    ensures { Stalled (J.jobs jobs.now) J.List.LIMIT (J.holds jobs.now) places.new holders.new parents.new }
+{
+    match_jobs(&ByLists { jobs }, places, holders, parents, slots);
+}
+
+// The components of a full matching of such jobs. All tables may be lent for one time.
+pub fn search_lists<'m, 'a, J: Listed>(
+    jobs: &'m J,
+    places: &'m [u16],
+    holders: &'m [u16],
+    index: &'a mut [u16],
+    labels: &'a mut [u16],
+    scratch: Scratch<'a, 'a, 'a, 'a>,
+)
+    requires few { J.jobs jobs.now ≤ 65535 }
+    requires sized { length places.now ≡ J.jobs jobs.now }
+    requires matched { Matched (J.jobs jobs.now) J.List.LIMIT (J.holds jobs.now) places.now holders.now }
+    requires every { (i : ℕ) → i < J.jobs jobs.now → filled places.now i ≡ true }
+    requires tables { Fit (J.jobs jobs.now) (tables scratch.cursors.now index.old labels.old scratch.nodes.now scratch.cuts.now scratch.path.now) }
+    ensures { Searched (single (J.jobs jobs.now) J.List.LIMIT (J.holds jobs.now)) (at places.now) (loose index.new) (at labels.new) }
+{
+    let full = Matching {
+        jobs: &ByLists { jobs },
+        places,
+        holders,
+    };
+    components(&full, index, labels, scratch);
+}
+
 // Lends its own tables to two searches, one after the other: each table is lent for a time of its own, and keeps its length.
 pub fn search_twice<J: Bipartite>(
     full: &Matching<J>,
@@ -83,7 +126,7 @@ pub fn search_twice<J: Bipartite>(
 #[cfg(test)]
 mod tests {
     use super::*;
-    use matching::{ByLists, match_jobs};
+    use matching::NONE;
     use places::CarrierRow;
     use queue::RingQueue;
     use std::test::Fail;
@@ -107,26 +150,32 @@ mod tests {
         Ok(())
     }
 
-    // The second job has place 0 alone, so the first moves to place 1.
+    // The second job has place 0 alone, so the first moves to place 1. It could take the place of the second, which can take no other:
+    // each is a component, and no place is free to either.
     #[test]
-    fn lists_are_matched(rt: HostRuntime) -> Result<(), Fail> {
+    fn lists_are_matched_and_searched(rt: HostRuntime) -> Result<(), Fail> {
         let jobs = Pair {
             first: CarrierRow(0b11),
             second: CarrierRow(0b01),
         };
         let mut places = [9; 2];
         let mut holders = [9; 64];
-        let mut parents = [9; 2];
-        let mut slots = [9; 2];
-        match_jobs(
-            &ByLists { jobs: &jobs },
-            &mut places,
-            &mut holders,
-            &mut parents,
-            &mut slots,
-        );
+        match_lists(&jobs, &mut places, &mut holders, &mut [9; 2], &mut [9; 2]);
+        let mut index = [9; 2];
+        let mut labels = [9; 2];
+        if places[0] != NONE && places[1] != NONE {
+            let scratch = Scratch {
+                cursors: &mut [9; 2],
+                nodes: &mut [9; 2],
+                cuts: &mut [9; 2],
+                path: &mut [9; 2],
+            };
+            search_lists(&jobs, &places, &holders, &mut index, &mut labels, scratch);
+        }
         assert_eq!(rt; places, [1, 0]);
         assert_eq!(rt; holders[1], 0);
+        assert_eq!(rt; labels, [1, 0]);
+        assert_eq!(rt; index, [0, 0]);
         assert_eq!(rt; jobs.list(0).count(), 2);
         assert_eq!(rt; jobs.list(1).next_from(0), Some(0));
         Ok(())

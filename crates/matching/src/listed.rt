@@ -29,7 +29,6 @@ pub struct ByLists<'a, J> {
 impl<'a, J: Listed> Bipartite for ByLists<'a, J> {
     ghost jobs = { λ b. J.jobs b.jobs.now };
 
-    // As the list kind says.
     ghost width = { λ _. J.List.LIMIT };
 
     ghost holds = { λ b. J.holds b.jobs.now };
